@@ -1,0 +1,3 @@
+//! Scores as lists: events, marks and pieces of a stock, and what makes a piece sound.
+pub mod kinds;
+pub mod score;
