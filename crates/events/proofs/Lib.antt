@@ -1,0 +1,9 @@
+pub mod Loops
+pub mod Stacking
+pub mod Balancing
+pub mod Ranges
+pub mod Numbers
+pub mod Table
+pub mod Sizes
+pub mod Verdicts
+pub mod SoundNodes

@@ -28,6 +28,26 @@ pub enum ScalarStyle {
     Folded,
 }
 
+/// What an event can open, and close again.
+#[derive(Clone, Copy)]
+pub enum Container {
+    Sequence,
+    Mapping,
+}
+
+/// The rules of a sound piece, in the order in which they are asked.
+#[derive(Clone, Copy)]
+pub enum Rule {
+    /// Sizes hold, runs and ranges lie inside the lists, kinds and styles are known.
+    Sizes,
+    /// Sequences and mappings pair and nest, and stream and document events stand outside of them.
+    Nesting,
+    /// The numbers carried by nodes are 1, 2, .. in order, as many as there are marks.
+    Numbering,
+    /// An alias names a number from 1 to the highest carried before it.
+    Aliases,
+}
+
 /// The step in depth of each kind, by its number.
 const STEPS: [i32; 10] = [0, 0, 0, 0, 0, 0, 1, -1, 1, -1];
 

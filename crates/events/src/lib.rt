@@ -1,3 +1,6 @@
 //! Scores as lists: events, marks and pieces of a stock, and what makes a piece sound.
 pub mod kinds;
+mod nesting;
+pub mod rules;
 pub mod score;
+pub mod sound;

@@ -46,3 +46,10 @@ pub struct Stock<'a> {
     pub marks: &'a [Mark],
     pub events: &'a [Event],
 }
+
+/// The range of a node: the places, in its piece, of its first and its last event.
+#[derive(Clone, Copy)]
+pub struct NodeRange {
+    pub first: u32,
+    pub last: u32,
+}
