@@ -4,6 +4,8 @@ pub mod Balancing
 pub mod Ranges
 pub mod Numbers
 pub mod Table
+pub mod Filling
+pub mod Marks
 pub mod Sizes
 pub mod Verdicts
 pub mod SoundNodes

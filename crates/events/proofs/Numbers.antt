@@ -65,6 +65,7 @@ must-step o a k k′ s l e = at (eqb a 0) refl e
   where
     h : here (startsNode o) (eqb a 0) ≡ false
     h = ap (λ x. here x (eqb a 0)) s
+
     at : (b : Bool) → eqb a 0 ≡ b → cond b (Some k) None ≡ Some k′ → Stepped o a k k′
     at true q f =
         let z : a ≡ 0 = eqb-true a 0 q in
@@ -155,6 +156,7 @@ named-at n k (e ∷ es) t u (suc p) h i =
     at : (b : Bool) {k′ : ℕ} → k′ ≡ tick b k → k′ + carriers (take p es) ≡ k + tick b (carriers (take p es))
     at true q = omega arith
     at false q = omega arith
+
     same : (b : Bool) → isAlias (kind e) ≡ b → {j j′ : ℕ} → numberedAt k e ≡ Some j → namedAt k e ≡ Some j′ → Stepped (kind e) (e .anchor) k j → j′ ≡ j
     same true q f g s = sym (kept (leb 1 (e .anchor) && leb (e .anchor) k) (sym (ap (λ b. cond b (cond (leb 1 (e .anchor) && leb (e .anchor) k) (Some k) None) (Some (max k (e .anchor)))) q) ∙ g)) ∙ sym (s .still q)
     same false q f g s = some≡ (sym g ∙ ap (λ b. cond b (cond (leb 1 (e .anchor) && leb (e .anchor) k) (Some k) None) (Some (max k (e .anchor)))) q) ∙ s .most q

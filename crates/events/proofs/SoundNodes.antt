@@ -25,6 +25,7 @@ use Rattle.events.specs.Nodes.{startsNode, carries, closing, endOf, rangesFrom
 use Rattle.events.proofs.Balancing.{nesting-is-balance}
 use Rattle.events.proofs.Ranges.{Ranged, ranged, ends-inside}
 use Rattle.events.proofs.Numbers.{carriers, count-is, number-is, names-is, carriers-take, carriers-rise}
+use Rattle.events.proofs.Sizes.{sized, part-length}
 use Rattle.events.proofs.Table.{ranges-length, Entered, entered}
 
 -- the four rules of a sound piece
@@ -144,3 +145,18 @@ pub sound-pieces-have-nodes : Sound-pieces-have-nodes
 sound-pieces-have-nodes l p t =
     let k = kept l p t in
     sound-nodes (eventsOf l p) (p .marks .len) (k .nesting) (k .numbering) (k .aliases)
+
+-- what the search for the ranges of a sound piece needs
+pub record Searchable (es : List Event) : Type 0 where
+  pub few : length es ≤ 8192
+  pub room : length (rangesFrom 0 es) ≤ 256
+  pub closed : (p : ℕ) → p < length es → carries (getD es p noEvent) ≡ true → endOf es p < length es
+
+pub searchable : (l : Lists) (p : Piece) → sound l p ≡ true → Searchable (eventsOf l p)
+searchable l p t =
+    let k = kept l p t in
+    let s = sized l p (k .sizes) in
+    let n = part-length (p .events) (l .events) (s .events-inside) in
+    let c = ranges-length (eventsOf l p) 0 in
+    let m = count-is (p .marks .len) (eventsOf l p) (k .numbering) in
+    record { few = omega (arith, s .few-events); room = omega (arith, s .few-marks); closed = λ q h c. placed-range (eventsOf l p) (p .marks .len) (k .nesting) (k .numbering) (k .aliases) q h c .within }

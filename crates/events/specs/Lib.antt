@@ -6,3 +6,4 @@ pub mod Stacks
 pub mod Balance
 pub mod Nodes
 pub mod Checked
+pub mod Tables

@@ -137,10 +137,10 @@ abbrev pub firstBroken : Lists → Piece → Option Rule
 firstBroken l p =
     cond (sizesHold l p)
     (cond (nests (eventsOf l p))
-      (cond (numbers (p .marks .len) (eventsOf l p))
-        (cond (pointsBack (eventsOf l p)) None (Some Aliases))
-        (Some Numbering))
-      (Some Nesting))
+    (cond (numbers (p .marks .len) (eventsOf l p))
+    (cond (pointsBack (eventsOf l p)) None (Some Aliases))
+    (Some Numbering))
+    (Some Nesting))
     (Some Sizes)
 
 abbrev pub sound : Lists → Piece → Bool

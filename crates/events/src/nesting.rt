@@ -34,7 +34,10 @@ impl OpenContainers {
     fn new() -> OpenContainers
         ensures { λ r. ⌜ stacked (r .table) (r .count) ≡ [] ⌝ ∗ ⌜ r .count ≡ 0 ⌝ }
     {
-        OpenContainers { table: [Container::Sequence; 8192], count: 0 }
+        OpenContainers {
+            table: [Container::Sequence; 8192],
+            count: 0,
+        }
     }
 
     fn push(&mut self, container: Container)
@@ -80,9 +83,10 @@ impl OpenContainers {
             EventKind::SequenceEnd => self.pop(Container::Sequence),
             EventKind::MappingEnd => self.pop(Container::Mapping),
             EventKind::Alias | EventKind::Scalar => true,
-            EventKind::StreamStart | EventKind::StreamEnd | EventKind::DocumentStart | EventKind::DocumentEnd => {
-                self.count == 0
-            }
+            EventKind::StreamStart
+            | EventKind::StreamEnd
+            | EventKind::DocumentStart
+            | EventKind::DocumentEnd => { self.count == 0 }
         }
     }
 }

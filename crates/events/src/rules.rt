@@ -92,7 +92,10 @@ fn number_after(highest: u32, event: Event) -> Option<u32>
 {
     match EventKind::from_number(event.kind)? {
         EventKind::Alias => Some(highest),
-        EventKind::Scalar | EventKind::SequenceStart | EventKind::MappingStart => next_number(highest, event.anchor),
+        EventKind::Scalar | EventKind::SequenceStart | EventKind::MappingStart => next_number(
+            highest,
+            event.anchor,
+        ),
         _ => {
             if event.anchor == 0 {
                 Some(highest)
@@ -124,7 +127,11 @@ fn next_number(highest: u32, anchor: u32) -> Option<u32>
     if anchor == 0 {
         return Some(highest);
     }
-    if anchor - 1 == highest { Some(anchor) } else { None }
+    if anchor - 1 == highest {
+        Some(anchor)
+    } else {
+        None
+    }
 }
 
 /// The highest number carried after an event, where `highest` was it before; `None` if the event is an alias that names no number up to there.

@@ -3,15 +3,16 @@ ghost use mathlib.Core.Bool.{true};
 ghost use mathlib.Core.Path.{_≡_};
 ghost use Rattle.events.specs.Rules.{sound};
 ghost use Rattle.events.specs.Scores.{lists};
+
 mod checking;
 mod nodes;
+mod reading;
 
-
-pub use checking::check;
-pub use nodes::NodeTable;
 use crate::kinds::Rule;
 use crate::score::Piece;
 use crate::score::Stock;
+pub use checking::check;
+pub use nodes::NodeTable;
 
 /// A piece of a stock that keeps the four rules. What works on a sound piece takes this type.
 #[derive(Clone, Copy)]

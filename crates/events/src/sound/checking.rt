@@ -85,7 +85,11 @@ pub fn first_broken_rule(stock: Stock, piece: Piece) -> Option<Rule>
 }
 
 /// A stock of nothing.
-const EMPTY_STOCK: Stock<'static> = Stock { bytes: &[], marks: &[], events: &[] };
+const EMPTY_STOCK: Stock<'static> = Stock {
+    bytes: &[],
+    marks: &[],
+    events: &[],
+};
 
 const EMPTY_RUN: Run = Run { start: 0, len: 0 };
 
@@ -99,7 +103,11 @@ pub fn check<'a>(stock: Stock<'a>, piece: Piece) -> Checked<'a>
         None => SoundPiece { stock, piece },
         Some(_) => SoundPiece {
             stock: EMPTY_STOCK,
-            piece: Piece { marks: EMPTY_RUN, events: EMPTY_RUN, text_len: 0 },
+            piece: Piece {
+                marks: EMPTY_RUN,
+                events: EMPTY_RUN,
+                text_len: 0,
+            },
         },
     };
     Checked { broken, sound }

@@ -1,0 +1,7 @@
+use native.Mathlib.Omega.{arith}
+use Rattle.events.proofs.Filling.{range-found}
+use Rattle.events.proofs.sound.nodes.NodeTable.range.Needs as need
+
+pub returns-then-number-self : need.returns-then-number-self
+returns-then-number-self c =
+    range-found (c .args .self .now .ranges) (c .args .self .now .count) (c .args .number) (omega arith) (omega arith) (omega arith)
