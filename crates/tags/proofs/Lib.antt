@@ -1,0 +1,5 @@
+pub mod Splits
+pub mod Members
+pub mod Forms
+pub mod Causing
+pub mod Inserting

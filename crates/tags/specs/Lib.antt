@@ -1,0 +1,4 @@
+pub mod Hashes
+pub mod Words
+pub mod Includes
+pub mod Causes
