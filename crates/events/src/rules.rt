@@ -49,21 +49,21 @@ impl Event {
 }
 
 /// Whether the lists of a stock are at most as long as they may be.
-pub fn stock_fits(stock: Stock) -> bool
+pub(crate) fn stock_fits(stock: Stock) -> bool
     ensures { λ r. ⌜ r ≡ stockFits (lists (stock .entry)) ⌝ }
 {
     stock.bytes.len() <= 1_048_576 && stock.marks.len() <= 4_096 && stock.events.len() <= 65_536
 }
 
 /// Whether the runs and the text of a piece are at most as long as they may be.
-pub fn piece_fits(piece: Piece) -> bool
+pub(crate) fn piece_fits(piece: Piece) -> bool
     ensures { λ r. ⌜ r ≡ pieceFits piece ⌝ }
 {
     piece.marks.len <= 256 && piece.events.len <= 8_192 && piece.text_len <= 1_048_576
 }
 
 /// Whether the name of each mark lies inside a stock of `size` bytes.
-pub fn marks_fit(marks: &[Mark], size: usize) -> bool
+pub(crate) fn marks_fit(marks: &[Mark], size: usize) -> bool
     ensures { λ r. ⌜ r ≡ all (markFits size) (now (marks .entry)) ⌝ }
 {
     for mark in marks {
@@ -75,7 +75,7 @@ pub fn marks_fit(marks: &[Mark], size: usize) -> bool
 }
 
 /// Whether each event is well formed in a stock of `size` bytes.
-pub fn events_fit(events: &[Event], size: usize) -> bool
+pub(crate) fn events_fit(events: &[Event], size: usize) -> bool
     ensures { λ r. ⌜ r ≡ all (eventFits size) (now (events .entry)) ⌝ }
 {
     for event in events {
@@ -107,7 +107,7 @@ fn number_after(highest: u32, event: Event) -> Option<u32>
 }
 
 /// Whether the numbers carried by the events are 1, 2, .. `count` in order.
-pub fn numbers_run(events: &[Event], count: u32) -> bool
+pub(crate) fn numbers_run(events: &[Event], count: u32) -> bool
     ensures { λ r. ⌜ r ≡ numbers count (now (events .entry)) ⌝ }
 {
     let mut highest = 0;
@@ -148,7 +148,7 @@ fn named_after(highest: u32, event: Event) -> Option<u32>
 }
 
 /// Whether each alias names a number from 1 to the highest carried before it.
-pub fn aliases_point_back(events: &[Event]) -> bool
+pub(crate) fn aliases_point_back(events: &[Event]) -> bool
     ensures { λ r. ⌜ r ≡ pointsBack (now (events .entry)) ⌝ }
 {
     let mut highest = 0;

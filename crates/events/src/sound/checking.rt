@@ -63,7 +63,7 @@ fn sizes_hold(stock: Stock, piece: Piece) -> bool
 }
 
 /// The first rule that a piece of a stock breaks, if there is one.
-pub fn first_broken_rule(stock: Stock, piece: Piece) -> Option<Rule>
+fn first_broken_rule(stock: Stock, piece: Piece) -> Option<Rule>
     ensures { λ r. ⌜ r ≡ firstBroken (lists (stock .entry)) piece ⌝ }
 {
     if !sizes_hold(stock, piece) {

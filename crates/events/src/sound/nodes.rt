@@ -23,13 +23,6 @@ impl NodeTable {
         NodeTable { ranges, count }
     }
 
-    /// How many numbers there are.
-    pub fn count(&self) -> usize
-        ensures { λ r. ⌜ r ≡ length (tabled (now (self .entry) .ranges) (now (self .entry) .count)) ⌝ }
-    {
-        self.count
-    }
-
     /// The range of the node with a number, if there is one.
     pub fn range(&self, number: u32) -> Option<NodeRange>
         ensures { λ r. ⌜ r ≡ rangeAt (tabled (now (self .entry) .ranges) (now (self .entry) .count)) number ⌝ }

@@ -6,33 +6,17 @@ ghost use Prim.Native.Nat.{ℕ, _-_, _^_, _<_, _≤_};
 ghost use Rattle.events.specs.Checked.{listsIn, pieceIn};
 ghost use Rattle.events.specs.Nodes.{carries, deeper, endOf, rangesFrom, Sound-nodes};
 ghost use Rattle.events.specs.Rules.{markFits};
-ghost use Rattle.events.specs.Scores.{eventsOf, kind, lists, marksOf, noEvent};
+ghost use Rattle.events.specs.Scores.{eventsOf, kind, marksOf, noEvent};
 ghost use Rattle.events.specs.Tables.{Finds-last, isNamed, lastNamed, tabled};
 ghost use Rattle.events.specs.Walks.{all};
 use crate::kinds::EventKind;
 use crate::score::Event;
 use crate::score::Mark;
 use crate::score::NodeRange;
-use crate::score::Piece;
-use crate::score::Stock;
 use crate::sound::NodeTable;
 use crate::sound::SoundPiece;
 
 impl<'a> SoundPiece<'a> {
-    /// The stock that the piece is of.
-    pub fn stock(self) -> Stock<'a>
-        ensures { λ r. ⌜ lists r ≡ listsIn (self .entry) ⌝ }
-    {
-        self.stock
-    }
-
-    /// The piece, as it was given to the check.
-    pub fn piece(self) -> Piece
-        ensures { λ r. ⌜ r ≡ pieceIn (self .entry) ⌝ }
-    {
-        self.piece
-    }
-
     /// The events of the piece.
     pub fn events(self) -> &'a [Event]
         ensures { λ r. ⌜ now r ≡ eventsOf (listsIn (self .entry)) (pieceIn (self .entry)) ⌝ }
@@ -129,8 +113,9 @@ fn carries_number(event: Event) -> bool
     ensures { λ r. ⌜ r ≡ carries event ⌝ }
 {
     match EventKind::from_number(event.kind) {
-        Some(EventKind::Scalar | EventKind::SequenceStart | EventKind::MappingStart) => event.anchor
-            != 0,
+        Some(EventKind::Scalar | EventKind::SequenceStart | EventKind::MappingStart) => {
+            event.anchor != 0
+        }
         _ => false,
     }
 }
