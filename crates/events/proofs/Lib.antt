@@ -5,7 +5,7 @@ pub mod Ranges
 pub mod Numbers
 pub mod Table
 pub mod Filling
-pub mod Marks
+pub mod LastMarks
 pub mod Sizes
 pub mod Verdicts
 pub mod SoundNodes

@@ -3,7 +3,7 @@ use mathlib.Core.Bool.{Bool, true, false}
 use mathlib.Core.List.{List}
 use Prim.Native.Nat.{ℕ, _+_}
 use lib.Dec.{leb}
-use lib.ListN.{take, drop}
+use lib.ListN.{length, take, drop}
 use denote.Ref.{now}
 use Rattle.std.specs.declared.option.Option.{Option}
 use Rattle.std.specs.declared.option.Option.the-variants.{Some, None}
@@ -32,6 +32,15 @@ within r n = leb (r .start + r .len) n
 abbrev pub part : {A : Type 0} → Run → List A → List A
 part r xs = take (r .len) (drop (r .start) xs)
 
+-- what was found, where it was
+abbrev pub foundIf : {A : Type 0} → Bool → A → Option A
+foundIf true x = Some x
+foundIf false x = None
+
+-- the items of a run, if it lies inside the list
+abbrev pub partIn : {A : Type 0} → Run → List A → Option (List A)
+partIn r xs = foundIf (within r (length xs)) (part r xs)
+
 abbrev pub marksOf : Lists → Piece → List Mark
 marksOf l p = part (p .marks) (l .marks)
 
@@ -51,8 +60,3 @@ noMark = record { name = noRun }
 
 abbrev pub noEvent : Event
 noEvent = record { kind = 0; anchor = 0; value = noRun; tag = noRun; style = 0; span = record { start = 0; end = 0 } }
-
--- what was found, where it was
-abbrev pub foundIf : {A : Type 0} → Bool → A → Option A
-foundIf true x = Some x
-foundIf false x = None

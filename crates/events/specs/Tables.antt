@@ -11,7 +11,8 @@ use Rattle.std.specs.Options.{Cases}
 use Rattle.std.specs.shelf.Text.{sameBytes}
 use Rattle.events.specs.declared.score.Mark.{Mark}
 use Rattle.events.specs.declared.score.NodeRange.{NodeRange}
-use Rattle.events.specs.Scores.{part, foundIf, noMark}
+use Rattle.events.specs.Scores.{partIn, foundIf, noMark}
+use Rattle.events.specs.Walks.{onward}
 use Rattle.events.specs.Nodes.{noRange}
 
 -- the ranges that a table of n entries holds
@@ -22,9 +23,9 @@ tabled rs n = take n rs
 abbrev pub rangeAt : List NodeRange → ℕ → Option NodeRange
 rangeAt rs k = foundIf (leb 1 k && leb k (length rs)) (getD rs (k - 1) noRange)
 
--- a mark has a name
+-- a mark has a name; one whose run lies outside the bytes has none
 abbrev pub isNamed : List ℕ → List ℕ → Mark → Bool
-isNamed bytes name m = sameBytes (part (m .name) bytes) name
+isNamed bytes name m = onward (partIn (m .name) bytes) (λ text. sameBytes text name)
 
 abbrev pub orElse : {A : Type 0} → Option A → Option A → Option A
 orElse None b = b

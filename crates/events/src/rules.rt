@@ -1,9 +1,10 @@
 //! The four rules of a sound piece, each as a test of the piece's own lists.
 ghost use lib.ListN.{length};
 ghost use mathlib.Core.Path.{_≡_};
-ghost use Rattle.events.specs.Scores.{within, lists};
+ghost use Rattle.events.specs.Scores.{lists, partIn, within};
 ghost use Rattle.events.specs.Rules.{stockFits, pieceFits, markFits, eventFits, mayCarry, numberedAt, numbers, namedAt, pointsBack, ruleNumber};
 ghost use Rattle.events.specs.Walks.{all};
+ghost use Rattle.std.specs.Options.{mapped};
 use crate::kinds::EventKind;
 use crate::kinds::Rule;
 use crate::kinds::ScalarStyle;
@@ -33,6 +34,17 @@ impl Run {
         ensures { λ r. ⌜ r ≡ within self size ⌝ }
     {
         self.start as usize + self.len as usize <= size
+    }
+
+    /// The items of the run, if it lies inside the list.
+    pub fn part_of<T>(self, items: &[T]) -> Option<&[T]>
+        ensures { λ r. ⌜ mapped now r ≡ partIn self (now (items .entry)) ⌝ }
+    {
+        if !self.lies_within(items.len()) {
+            return None;
+        }
+        let start = self.start as usize;
+        Some(&items[start..start + self.len as usize])
     }
 }
 

@@ -1,11 +1,9 @@
 //! The soundness check.
-ghost use lib.ListN.{length};
 ghost use mathlib.Core.Path.{_≡_};
 ghost use Rattle.events.specs.Balance.{Nesting-is-balance};
 ghost use Rattle.events.specs.Checked.{told, verdict};
 ghost use Rattle.events.specs.Rules.{firstBroken, sizesHold};
-ghost use Rattle.events.specs.Scores.{eventsOf, foundIf, lists, marksOf, within};
-ghost use Rattle.std.specs.Options.{mapped};
+ghost use Rattle.events.specs.Scores.{lists};
 use crate::kinds::Rule;
 use crate::nesting::containers_nest;
 use crate::rules::aliases_point_back;
@@ -14,37 +12,11 @@ use crate::rules::marks_fit;
 use crate::rules::numbers_run;
 use crate::rules::piece_fits;
 use crate::rules::stock_fits;
-use crate::score::Event;
-use crate::score::Mark;
 use crate::score::Piece;
 use crate::score::Run;
 use crate::score::Stock;
 use crate::sound::Checked;
 use crate::sound::SoundPiece;
-
-impl<'a> Stock<'a> {
-    /// The marks of a piece, if its run of marks lies inside the stock.
-    pub fn marks_of(self, piece: Piece) -> Option<&'a [Mark]>
-        ensures { λ r. ⌜ mapped now r ≡ foundIf (within (piece .marks) (length (now (self .entry .marks)))) (marksOf (lists (self .entry)) piece) ⌝ }
-    {
-        if !piece.marks.lies_within(self.marks.len()) {
-            return None;
-        }
-        let start = piece.marks.start as usize;
-        Some(&self.marks[start..start + piece.marks.len as usize])
-    }
-
-    /// The events of a piece, if its run of events lies inside the stock.
-    pub fn events_of(self, piece: Piece) -> Option<&'a [Event]>
-        ensures { λ r. ⌜ mapped now r ≡ foundIf (within (piece .events) (length (now (self .entry .events)))) (eventsOf (lists (self .entry)) piece) ⌝ }
-    {
-        if !piece.events.lies_within(self.events.len()) {
-            return None;
-        }
-        let start = piece.events.start as usize;
-        Some(&self.events[start..start + piece.events.len as usize])
-    }
-}
 
 /// The first rule: sizes hold, runs and ranges lie inside the lists, kinds and styles are known.
 fn sizes_hold(stock: Stock, piece: Piece) -> bool
@@ -53,10 +25,10 @@ fn sizes_hold(stock: Stock, piece: Piece) -> bool
     if !stock_fits(stock) || !piece_fits(piece) {
         return false;
     }
-    let Some(marks) = stock.marks_of(piece) else {
+    let Some(marks) = piece.marks.part_of(stock.marks) else {
         return false;
     };
-    let Some(events) = stock.events_of(piece) else {
+    let Some(events) = piece.events.part_of(stock.events) else {
         return false;
     };
     marks_fit(marks, stock.bytes.len()) && events_fit(events, stock.bytes.len())
@@ -69,7 +41,7 @@ fn first_broken_rule(stock: Stock, piece: Piece) -> Option<Rule>
     if !sizes_hold(stock, piece) {
         return Some(Rule::Sizes);
     }
-    let Some(events) = stock.events_of(piece) else {
+    let Some(events) = piece.events.part_of(stock.events) else {
         return Some(Rule::Sizes);
     };
     if !containers_nest(events) {

@@ -24,11 +24,11 @@ impl NodeTable {
     }
 
     /// The range of the node with a number, if there is one.
-    pub fn range(&self, number: u32) -> Option<NodeRange>
+    pub fn range(&self, number: usize) -> Option<NodeRange>
         ensures { λ r. ⌜ r ≡ rangeAt (tabled (now (self .entry) .ranges) (now (self .entry) .count)) number ⌝ }
     {
-        if number >= 1 && number as usize <= self.count {
-            Some(self.ranges[number as usize - 1])
+        if number >= 1 && number <= self.count {
+            Some(self.ranges[number - 1])
         } else {
             None
         }

@@ -5,11 +5,10 @@ ghost use mathlib.Core.Path.{_≡_};
 ghost use Prim.Native.Nat.{ℕ, _-_, _^_, _<_, _≤_};
 ghost use Rattle.events.specs.Checked.{listsIn, pieceIn};
 ghost use Rattle.events.specs.Nodes.{carries, deeper, endOf, rangesFrom, Sound-nodes};
-ghost use Rattle.events.specs.Rules.{markFits};
 ghost use Rattle.events.specs.Scores.{eventsOf, kind, marksOf, noEvent};
-ghost use Rattle.events.specs.Tables.{Finds-last, isNamed, lastNamed, tabled};
-ghost use Rattle.events.specs.Walks.{all};
+ghost use Rattle.events.specs.Tables.{Finds-last, lastNamed, tabled};
 use crate::kinds::EventKind;
+use crate::marks::last_named;
 use crate::score::Event;
 use crate::score::Mark;
 use crate::score::NodeRange;
@@ -46,38 +45,12 @@ impl<'a> SoundPiece<'a> {
     }
 
     /// The number of the last mark with a name, if any mark has it.
-    pub fn last_mark_named(self, name: &[u8]) -> Option<u32>
+    pub fn last_mark_named(self, name: &[u8]) -> Option<usize>
         ensures number { λ r. ⌜ r ≡ lastNamed (listsIn (self .entry) .bytes) (now (name .entry)) (marksOf (listsIn (self .entry)) (pieceIn (self .entry))) ⌝ }
         ensures finds_the_last { λ r. ⌜ Finds-last (listsIn (self .entry) .bytes) (now (name .entry)) (marksOf (listsIn (self .entry)) (pieceIn (self .entry))) r ⌝ }
     {
         last_named(self.stock.bytes, self.marks(), name)
     }
-}
-
-/// Whether a mark has a name.
-fn is_named(bytes: &[u8], mark: Mark, name: &[u8]) -> bool
-    requires { ⌜ markFits (length (now bytes)) mark ≡ true ⌝ }
-    ensures { λ r. ⌜ r ≡ isNamed (now (bytes .entry)) (now (name .entry)) mark ⌝ }
-{
-    let start = mark.name.start as usize;
-    &bytes[start..start + mark.name.len as usize] == name
-}
-
-/// The number of the last mark with a name; the first mark has number 1.
-fn last_named(bytes: &[u8], marks: &[Mark], name: &[u8]) -> Option<u32>
-    requires few { ⌜ length (now marks) ≤ 256 ⌝ }
-    requires inside { ⌜ all (markFits (length (now bytes))) (now marks) ≡ true ⌝ }
-    ensures { λ r. ⌜ r ≡ lastNamed (now (bytes .entry)) (now (name .entry)) (now (marks .entry)) ⌝ }
-{
-    let mut number = 0;
-    let mut found = None;
-    for mark in marks {
-        number += 1;
-        if is_named(bytes, *mark, name) {
-            found = Some(number);
-        }
-    }
-    found
 }
 
 /// The depth after an event; one of an unknown kind leaves it.

@@ -1,19 +1,13 @@
-use mathlib.Core.Path.{_≡_, sym, ap, _∙_}
+use mathlib.Core.Path.{_≡_, sym, ap, subst, _∙_}
 use Prim.Native.Nat.{ℕ, suc, _+_}
 use native.Mathlib.Omega.{arith}
-use lib.ListN.{length, drop}
+use lib.ListN.{drop}
 use Rattle.std.specs.declared.option.Option.{Option}
 use Rattle.std.specs.declared.option.Option.the-variants.{Some}
-use Rattle.events.specs.Rules.{markFits}
-use Rattle.events.specs.Scores.{noMark}
-use Rattle.events.specs.Tables.{orElse, lastFrom}
-use Rattle.events.proofs.Marks.{all-at, last-here, last-pass, last-ends}
-use Rattle.events.proofs.sound.reading.last_named.Needs as need
-use Rattle.events.proofs.sound.reading.last_named.Needs.{then-is-named, else-is-named}
-
-pub is-named-requires : need.is-named-requires
-is-named-requires c κs =
-    all-at (markFits (length (c .args .bytes .now))) (c .args .marks .now) noMark (c .pre .inside) (c .loop-mark .mark-index) (c .loop-mark-test .taken)
+use Rattle.events.specs.Tables.{orElse, lastFrom, lastNamed, Finds-last}
+use Rattle.events.proofs.LastMarks.{finds-last, last-here, last-pass, last-ends}
+use Rattle.events.proofs.marks.last_named.Needs as need
+use Rattle.events.proofs.marks.last_named.Needs.{then-is-named, else-is-named}
 
 pub loop-mark-again : need.loop-mark-again
 loop-mark-again c =
@@ -27,4 +21,10 @@ loop-mark-again c =
     elim (c .if-is-named .came) [ then-is-named w ↦ (ap left (w .found-is ∙ ap Some n) ∙ sym (last-here bytes name ms i found (c .loop-mark-test .taken) (sym (w .if-is-named .ensures tt))) ∙ c .loop-mark .inv .0, n) | else-is-named w ↦ (ap left (w .found-is) ∙ sym (last-pass bytes name ms i found (c .loop-mark-test .taken) (sym (w .if-is-named .ensures tt))) ∙ c .loop-mark .inv .0, n) ]
 
 pub returns : need.returns
-returns c = sym (last-ends (c .args .bytes .now) (c .args .name .now) (c .args .marks .now) (c .loop-mark .mark-index) (c .loop-mark .found) (c .loop-mark-test .left)) ∙ c .loop-mark .inv .0
+returns c =
+    let bytes = c .args .bytes .now in
+    let name = c .args .name .now in
+    let ms = c .args .marks .now in
+    let e : c .loop-mark .found ≡ lastNamed bytes name ms = sym (last-ends bytes name ms (c .loop-mark .mark-index) (c .loop-mark .found) (c .loop-mark-test .left)) ∙ c .loop-mark .inv .0 in
+    let F : Option ℕ → Type 0 = λ o. Finds-last bytes name ms o in
+    record { number = e; finds-the-last = subst F (sym e) (finds-last bytes name ms) }

@@ -1,6 +1,6 @@
 -- The last mark of a name.
 use mathlib.Core.Path.{_≡_, refl, sym, ap, subst, _∙_}
-use mathlib.Core.Bool.{Bool, true, false, _&&_}
+use mathlib.Core.Bool.{Bool, true, false}
 use mathlib.Core.List.{List, [], _∷_}
 use Prim.Native.Nat.{ℕ, zero, suc, _+_, _-_, _≤_, _<_}
 use native.Mathlib.Numerals.{add-one}
@@ -10,17 +10,9 @@ use Rattle.std.specs.declared.option.Option.{Option}
 use Rattle.std.specs.declared.option.Option.the-variants.{Some, None}
 use Rattle.std.specs.Options.{Cases}
 use Rattle.std.proofs.shelf.Lists.{drop-more, drop-all}
-use Rattle.std.proofs.shelf.Tests.{and-parts}
 use Rattle.events.specs.declared.score.Mark.{Mark}
 use Rattle.events.specs.Scores.{foundIf, noMark}
-use Rattle.events.specs.Walks.{all}
 use Rattle.events.specs.Tables.{isNamed, orElse, lastFrom, lastNamed, Is-last, None-named, Finds-last}
-
--- a test that passes at each item passes at one
-pub all-at : {A : Type 0} (f : A → Bool) (xs : List A) (d : A) → all f xs ≡ true → (i : ℕ) → i < length xs → f (getD xs i d) ≡ true
-all-at f [] d t i h = absurd (omega arith)
-all-at f (x ∷ xs) d t zero h = and-parts (f x) (all f xs) t .0
-all-at f (x ∷ xs) d t (suc i) h = all-at f xs d (and-parts (f x) (all f xs) t .1) i (omega arith)
 
 or-else-assoc : {A : Type 0} (a b c : Option A) → orElse (orElse a b) c ≡ orElse a (orElse b c)
 or-else-assoc None b c = refl
