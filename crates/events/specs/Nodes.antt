@@ -100,11 +100,21 @@ pub record Names-before (es : List Event) (n p : ℕ) : Type 0 where
   pub before : rangeOf es (getD es p noEvent .anchor) .first < p
 
 -- what the nodes of a sound piece with n marks are
+
+abbrev pub One-node-each : List Event → ℕ → Type 0
+One-node-each es n = (k : ℕ) → 1 ≤ k → k ≤ n → One-node es k
+
+abbrev pub All-nest-or-are-disjoint : List Event → ℕ → Type 0
+All-nest-or-are-disjoint es n = (j k : ℕ) → 1 ≤ j → j ≤ n → 1 ≤ k → k ≤ n → Nest-or-disjoint (rangeOf es j) (rangeOf es k)
+
+abbrev pub Aliases-name-nodes-before-them : List Event → ℕ → Type 0
+Aliases-name-nodes-before-them es n = (p : ℕ) → p < length es → kind (getD es p noEvent) ≡ Some Alias → Names-before es n p
+
 pub record Sound-nodes (es : List Event) (n : ℕ) : Type 0 where
   pub counted : length (rangesFrom 0 es) ≡ n
-  pub one-each : (k : ℕ) → 1 ≤ k → k ≤ n → One-node es k
-  pub nested : (j k : ℕ) → 1 ≤ j → j ≤ n → 1 ≤ k → k ≤ n → Nest-or-disjoint (rangeOf es j) (rangeOf es k)
-  pub aliases : (p : ℕ) → p < length es → kind (getD es p noEvent) ≡ Some Alias → Names-before es n p
+  pub one-each : One-node-each es n
+  pub nested : All-nest-or-are-disjoint es n
+  pub aliases : Aliases-name-nodes-before-them es n
 
 abbrev pub Sound-pieces-have-nodes : Type 0
 Sound-pieces-have-nodes = (l : Lists) (p : Piece) → sound l p ≡ true → Sound-nodes (eventsOf l p) (p .marks .len)

@@ -54,7 +54,7 @@ const STEPS: [i32; 10] = [0, 0, 0, 0, 0, 0, 1, -1, 1, -1];
 impl EventKind {
     /// The kind of a number, if there is one.
     pub fn from_number(number: u32) -> Option<EventKind>
-        ensures { λ r. ⌜ r ≡ kindOf number ⌝ }
+        ensures is_the_kind_of_the_number { λ r. ⌜ r ≡ kindOf number ⌝ }
     {
         match number {
             0 => Some(EventKind::StreamStart),
@@ -73,21 +73,21 @@ impl EventKind {
 
     /// The number of a kind.
     pub fn number(self) -> u32
-        ensures { λ r. ⌜ r ≡ kindNumber self ⌝ }
+        ensures is_the_number_of_the_kind { λ r. ⌜ r ≡ kindNumber self ⌝ }
     {
         self as u32
     }
 
     /// The step in depth: 1 at a start, -1 at an end, else 0.
     pub fn step(self) -> i32
-        ensures { λ r. ⌜ r ≡ stepOf self ⌝ }
+        ensures is_the_step_of_the_kind { λ r. ⌜ r ≡ stepOf self ⌝ }
     {
         STEPS[self as usize]
     }
 
     /// The depth after an event of this kind: never below 0, and at most the largest `u32`.
     pub fn depth_after(self, depth: u32) -> u32
-        ensures { λ r. ⌜ r ≡ min (after self depth) (2 ^ 32 - 1) ⌝ }
+        ensures moves_the_depth_by_the_step { λ r. ⌜ r ≡ min (after self depth) (2 ^ 32 - 1) ⌝ }
     {
         depth.saturating_add_signed(self.step())
     }
@@ -96,7 +96,7 @@ impl EventKind {
 impl ScalarStyle {
     /// The style of a number, if there is one.
     pub fn from_number(number: u32) -> Option<ScalarStyle>
-        ensures { λ r. ⌜ r ≡ styleOf number ⌝ }
+        ensures is_the_style_of_the_number { λ r. ⌜ r ≡ styleOf number ⌝ }
     {
         match number {
             0 => Some(ScalarStyle::Plain),
@@ -110,7 +110,7 @@ impl ScalarStyle {
 
     /// The number of a style.
     pub fn number(self) -> u32
-        ensures { λ r. ⌜ r ≡ styleNumber self ⌝ }
+        ensures is_the_number_of_the_style { λ r. ⌜ r ≡ styleNumber self ⌝ }
     {
         self as u32
     }

@@ -15,7 +15,7 @@ fn is_named(bytes: &[u8], mark: Mark, name: &[u8]) -> bool
 
 /// The number of the last mark with a name, if any mark has it; the first mark has number 1.
 pub fn last_named(bytes: &[u8], marks: &[Mark], name: &[u8]) -> Option<usize>
-    ensures number { λ r. ⌜ r ≡ lastNamed (now (bytes .entry)) (now (name .entry)) (now (marks .entry)) ⌝ }
+    ensures is_the_number_of_the_last_mark { λ r. ⌜ r ≡ lastNamed (now (bytes .entry)) (now (name .entry)) (now (marks .entry)) ⌝ }
     ensures finds_the_last { λ r. ⌜ Finds-last (now (bytes .entry)) (now (name .entry)) (now (marks .entry)) r ⌝ }
 {
     let mut number = 0;

@@ -17,7 +17,7 @@ use crate::score::Stock;
 impl Rule {
     /// The number of a rule, 1 to 4.
     pub fn number(self) -> u32
-        ensures { λ r. ⌜ r ≡ ruleNumber self ⌝ }
+        ensures is_the_number_of_the_rule { λ r. ⌜ r ≡ ruleNumber self ⌝ }
     {
         match self {
             Rule::Sizes => 1,
@@ -31,14 +31,15 @@ impl Rule {
 impl Run {
     /// Whether the run lies inside a list of `size` items.
     pub fn lies_within(self, size: usize) -> bool
-        ensures { λ r. ⌜ r ≡ within self size ⌝ }
+        ensures lies_inside_without_wrapping { λ r. ⌜ r ≡ within self size ⌝ }
     {
-        self.start as usize + self.len as usize <= size
+        let end = self.start as usize + self.len as usize;
+        end <= size
     }
 
     /// The items of the run, if it lies inside the list.
     pub fn part_of<T>(self, items: &[T]) -> Option<&[T]>
-        ensures { λ r. ⌜ mapped now r ≡ partIn self (now (items .entry)) ⌝ }
+        ensures is_the_part_inside { λ r. ⌜ mapped now r ≡ partIn self (now (items .entry)) ⌝ }
     {
         if !self.lies_within(items.len()) {
             return None;
@@ -51,7 +52,7 @@ impl Run {
 impl Event {
     /// Whether kind and style are known, and value and tag lie inside a stock of `size` bytes.
     pub fn is_well_formed(self, size: usize) -> bool
-        ensures { λ r. ⌜ r ≡ eventFits size self ⌝ }
+        ensures kind_style_and_ranges_hold { λ r. ⌜ r ≡ eventFits size self ⌝ }
     {
         EventKind::from_number(self.kind).is_some()
             && ScalarStyle::from_number(self.style).is_some()

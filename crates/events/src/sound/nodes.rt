@@ -25,7 +25,7 @@ impl NodeTable {
 
     /// The range of the node with a number, if there is one.
     pub fn range(&self, number: usize) -> Option<NodeRange>
-        ensures { λ r. ⌜ r ≡ rangeAt (tabled (now (self .entry) .ranges) (now (self .entry) .count)) number ⌝ }
+        ensures is_the_range_of_the_number { λ r. ⌜ r ≡ rangeAt (tabled (now (self .entry) .ranges) (now (self .entry) .count)) number ⌝ }
     {
         if number >= 1 && number <= self.count {
             Some(self.ranges[number - 1])

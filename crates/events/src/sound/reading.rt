@@ -4,7 +4,7 @@ ghost use mathlib.Core.Bool.{true};
 ghost use mathlib.Core.Path.{_≡_};
 ghost use Prim.Native.Nat.{ℕ, _-_, _^_, _<_, _≤_};
 ghost use Rattle.events.specs.Checked.{listsIn, pieceIn};
-ghost use Rattle.events.specs.Nodes.{carries, deeper, endOf, rangesFrom, Sound-nodes};
+ghost use Rattle.events.specs.Nodes.{carries, deeper, endOf, rangesFrom, Aliases-name-nodes-before-them, All-nest-or-are-disjoint, One-node-each};
 ghost use Rattle.events.specs.Scores.{eventsOf, kind, marksOf, noEvent};
 ghost use Rattle.events.specs.Tables.{Finds-last, lastNamed, tabled};
 use crate::kinds::EventKind;
@@ -18,7 +18,7 @@ use crate::sound::SoundPiece;
 impl<'a> SoundPiece<'a> {
     /// The events of the piece.
     pub fn events(self) -> &'a [Event]
-        ensures { λ r. ⌜ now r ≡ eventsOf (listsIn (self .entry)) (pieceIn (self .entry)) ⌝ }
+        ensures are_the_events_of_the_piece { λ r. ⌜ now r ≡ eventsOf (listsIn (self .entry)) (pieceIn (self .entry)) ⌝ }
     {
         let start = self.piece.events.start as usize;
         &self.stock
@@ -27,7 +27,7 @@ impl<'a> SoundPiece<'a> {
 
     /// The marks of the piece: the mark at place `k - 1` names the node with number `k`.
     pub fn marks(self) -> &'a [Mark]
-        ensures { λ r. ⌜ now r ≡ marksOf (listsIn (self .entry)) (pieceIn (self .entry)) ⌝ }
+        ensures are_the_marks_of_the_piece { λ r. ⌜ now r ≡ marksOf (listsIn (self .entry)) (pieceIn (self .entry)) ⌝ }
     {
         let start = self.piece.marks.start as usize;
         &self.stock
@@ -36,8 +36,11 @@ impl<'a> SoundPiece<'a> {
 
     /// The ranges of the nodes with numbers.
     pub fn nodes(self) -> NodeTable
-        ensures ranges { λ r. ⌜ tabled (r .ranges) (r .count) ≡ rangesFrom 0 (eventsOf (listsIn (self .entry)) (pieceIn (self .entry))) ⌝ }
-        ensures one_balanced_node_per_number { λ _. ⌜ Sound-nodes (eventsOf (listsIn (self .entry)) (pieceIn (self .entry))) (pieceIn (self .entry) .marks .len) ⌝ }
+        ensures are_the_ranges_of_the_nodes { λ r. ⌜ tabled (r .ranges) (r .count) ≡ rangesFrom 0 (eventsOf (listsIn (self .entry)) (pieceIn (self .entry))) ⌝ }
+        ensures one_balanced_node_per_number { λ _. ⌜ One-node-each (eventsOf (listsIn (self .entry)) (pieceIn (self .entry))) (pieceIn (self .entry) .marks .len) ⌝ }
+        ensures as_many_ranges_as_marks { λ r. ⌜ length (tabled (r .ranges) (r .count)) ≡ pieceIn (self .entry) .marks .len ⌝ }
+        ensures ranges_nest_or_are_disjoint { λ _. ⌜ All-nest-or-are-disjoint (eventsOf (listsIn (self .entry)) (pieceIn (self .entry))) (pieceIn (self .entry) .marks .len) ⌝ }
+        ensures aliases_name_nodes_before_them { λ _. ⌜ Aliases-name-nodes-before-them (eventsOf (listsIn (self .entry)) (pieceIn (self .entry))) (pieceIn (self .entry) .marks .len) ⌝ }
     {
         let mut ranges = [NodeRange { first: 0, last: 0 }; 256];
         let count = find_ranges(self.events(), &mut ranges);
@@ -46,7 +49,7 @@ impl<'a> SoundPiece<'a> {
 
     /// The number of the last mark with a name, if any mark has it.
     pub fn last_mark_named(self, name: &[u8]) -> Option<usize>
-        ensures number { λ r. ⌜ r ≡ lastNamed (listsIn (self .entry) .bytes) (now (name .entry)) (marksOf (listsIn (self .entry)) (pieceIn (self .entry))) ⌝ }
+        ensures is_the_number_of_the_last_mark { λ r. ⌜ r ≡ lastNamed (listsIn (self .entry) .bytes) (now (name .entry)) (marksOf (listsIn (self .entry)) (pieceIn (self .entry))) ⌝ }
         ensures finds_the_last { λ r. ⌜ Finds-last (listsIn (self .entry) .bytes) (now (name .entry)) (marksOf (listsIn (self .entry)) (pieceIn (self .entry))) r ⌝ }
     {
         last_named(self.stock.bytes, self.marks(), name)

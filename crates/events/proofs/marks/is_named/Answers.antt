@@ -9,4 +9,4 @@ use Rattle.events.proofs.marks.is_named.Needs as need
 
 pub returns-in-Some : need.returns-in-Some
 returns-in-Some c =
-    same-from-decides _ _ (matches-decides _ _ _ (c .eq .ensures)) (sameBytes-decides _ _) ∙ ap (λ o. onward o (λ (text : List ℕ). sameBytes text (c .args .name .now))) (c .in-Some .ensures tt)
+    same-from-decides _ _ (matches-decides _ _ _ (c .eq .ensures)) (sameBytes-decides _ _) ∙ ap (λ o. onward o (λ (text : List ℕ). sameBytes text (c .args .name .now))) (c .in-Some .ensures tt .is-the-part-inside)

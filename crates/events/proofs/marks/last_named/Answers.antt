@@ -27,4 +27,4 @@ returns c =
     let ms = c .args .marks .now in
     let e : c .loop-mark .found ≡ lastNamed bytes name ms = sym (last-ends bytes name ms (c .loop-mark .mark-index) (c .loop-mark .found) (c .loop-mark-test .left)) ∙ c .loop-mark .inv .0 in
     let F : Option ℕ → Type 0 = λ o. Finds-last bytes name ms o in
-    record { number = e; finds-the-last = subst F (sym e) (finds-last bytes name ms) }
+    record { is-the-number-of-the-last-mark = e; finds-the-last = subst F (sym e) (finds-last bytes name ms) }

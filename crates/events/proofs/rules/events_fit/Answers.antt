@@ -6,11 +6,11 @@ use Rattle.events.proofs.rules.events_fit.Needs as need
 
 pub returns-then-not-is-well-formed : need.returns-then-not-is-well-formed
 returns-then-not-is-well-formed c =
-    sym (all-fails (eventFits (c .args .size)) (c .args .events .now) (c .loop-event .event-index) noEvent (c .loop-event-test .taken) (sym (c .if-not-is-well-formed .ensures tt))) ∙ c .loop-event .inv
+    sym (all-fails (eventFits (c .args .size)) (c .args .events .now) (c .loop-event .event-index) noEvent (c .loop-event-test .taken) (sym (c .if-not-is-well-formed .ensures tt .kind-style-and-ranges-hold))) ∙ c .loop-event .inv
 
 pub loop-event-again : need.loop-event-again
 loop-event-again c =
-    sym (all-passes (eventFits (c .args .size)) (c .args .events .now) (c .loop-event .event-index) noEvent (c .loop-event-test .taken) (sym (c .if-not-is-well-formed .ensures tt))) ∙ c .loop-event .inv
+    sym (all-passes (eventFits (c .args .size)) (c .args .events .now) (c .loop-event .event-index) noEvent (c .loop-event-test .taken) (sym (c .if-not-is-well-formed .ensures tt .kind-style-and-ranges-hold))) ∙ c .loop-event .inv
 
 pub returns : need.returns
 returns c =

@@ -13,6 +13,6 @@ containers-nest-requires c κs =
     let p = c .args .piece in
     let s = sized l p (sym (c .if-not-sizes-hold .ensures tt)) in
     let n = part-length (p .events) (l .events) (s .events-inside) in
-    let e : c .in-Some .events .now ≡ eventsOf l p = found-is (within (p .events) (length (l .events))) (c .in-Some .events .now) (eventsOf l p) (c .in-Some .ensures tt) in
+    let e : c .in-Some .events .now ≡ eventsOf l p = found-is (within (p .events) (length (l .events))) (c .in-Some .events .now) (eventsOf l p) (c .in-Some .ensures tt .is-the-part-inside) in
     let w : length (c .in-Some .events .now) ≡ length (eventsOf l p) = ap (λ (es : List Event). length es) e in
     omega (arith, s .few-events)
