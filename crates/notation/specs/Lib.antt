@@ -1,0 +1,5 @@
+pub mod Escapes
+pub mod Lines
+pub mod View
+pub mod Scores
+pub mod Causes
