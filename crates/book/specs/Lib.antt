@@ -1,0 +1,10 @@
+pub mod Words
+pub mod Decimal
+pub mod Said
+pub mod Lookups
+pub mod Entries
+pub mod Books
+pub mod View
+pub mod EntryView
+pub mod BookView
+pub mod Laws
