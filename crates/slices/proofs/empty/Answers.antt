@@ -8,4 +8,4 @@ none_left [] = refl
 none_left (x ∷ xs) = ne_eqb (suc (length xs)) 0 (λ w. omega arith)
 
 pub returns : goal.returns
-returns c = record { value = c.is-empty.ensures ∙ none_left c.args.s.now }
+returns c = record { value = c.is_empty.ensures ∙ none_left c.args.s.now }

@@ -17,26 +17,26 @@ pub returns-in-NotInclude : goal.returns-in-NotInclude
 returns-in-NotInclude c =
     let tag = c.args.tag.now in
     let value = c.args.value.now in
-    let e : ◌≡◌ {A = Answer} (Ok None) (spec_of include_words tag value) = by_form tag value _ c.in-NotInclude.ensures.is-the-form in
-    record { is-the-spec = e; keeps-the-laws = law tag value _ e }
+    let e : ◌≡◌ {A = Answer} (Ok None) (spec_of include_words tag value) = by_form tag value _ c.in-NotInclude.ensures.is_the_form in
+    record { is_the_spec = e; keeps_the_laws = law tag value _ e }
 
 pub returns-in-InvalidFragment : goal.returns-in-InvalidFragment
 returns-in-InvalidFragment c =
     let tag = c.args.tag.now in
     let value = c.args.value.now in
-    let e : ◌≡◌ {A = Answer} (Err EmptyFragment) (spec_of include_words tag value) = by_form tag value _ c.in-InvalidFragment.ensures.is-the-form in
-    record { is-the-spec = e; keeps-the-laws = law tag value _ e }
+    let e : ◌≡◌ {A = Answer} (Err EmptyFragment) (spec_of include_words tag value) = by_form tag value _ c.in-InvalidFragment.ensures.is_the_form in
+    record { is_the_spec = e; keeps_the_laws = law tag value _ e }
 
 pub returns-in-Plain : goal.returns-in-Plain
 returns-in-Plain c =
     let tag = c.args.tag.now in
     let value = c.args.value.now in
-    let e : ◌≡◌ {A = Answer} (told c.spec-from-value.result) (spec_of include_words tag value) = c.spec-from-value.ensures.from-value ∙ by_form tag value _ c.in-Plain.ensures.is-the-form in
-    record { is-the-spec = e; keeps-the-laws = law tag value _ e }
+    let e : ◌≡◌ {A = Answer} (told c.spec_from_value.result) (spec_of include_words tag value) = c.spec_from_value.ensures.from_value ∙ by_form tag value _ c.in-Plain.ensures.is_the_form in
+    record { is_the_spec = e; keeps_the_laws = law tag value _ e }
 
 pub returns-in-WithFragment : goal.returns-in-WithFragment
 returns-in-WithFragment c =
     let tag = c.args.tag.now in
     let value = c.args.value.now in
-    let e : ◌≡◌ {A = Answer} (told c.spec-with-fragment.result) (spec_of include_words tag value) = c.spec-with-fragment.ensures.with-fragment ∙ by_form tag value _ c.in-WithFragment.ensures.is-the-form in
-    record { is-the-spec = e; keeps-the-laws = law tag value _ e }
+    let e : ◌≡◌ {A = Answer} (told c.spec_with_fragment.result) (spec_of include_words tag value) = c.spec_with_fragment.ensures.with_fragment ∙ by_form tag value _ c.in-WithFragment.ensures.is_the_form in
+    record { is_the_spec = e; keeps_the_laws = law tag value _ e }

@@ -10,10 +10,10 @@ returns-in-Scalar c =
     let kind = c.args.kind in
     let tag = c.args.tag.now in
     let value = c.args.value.now in
-    let e : told c.include-spec-from-tag-and-value.result ≡ insert_of include_words kind tag value =
-    c.include-spec-from-tag-and-value.ensures.is-the-spec ∙ sym (ap (λ k. cond (is_scalar k) (spec_of include_words tag value) (Ok None)) c.in-Scalar.is) in
+    let e : told c.include_spec_from_tag_and_value.result ≡ insert_of include_words kind tag value =
+    c.include_spec_from_tag_and_value.ensures.is_the_spec ∙ sym (ap (λ k. cond (is_scalar k) (spec_of include_words tag value) (Ok None)) c.in-Scalar.is) in
     let P : Answer → Type 0 = λ r. Decides (is_insert include_words kind tag) (r ≡ Ok None → ⊥) in
-    record { is-the-insert = e; answers-exactly-inserts = subst P (sym e) (answered_decides include_words include_words_hashless kind tag value) }
+    record { is_the_insert = e; answers_exactly_inserts = subst P (sym e) (answered_decides include_words include_words_hashless kind tag value) }
 
 pub returns-in-default : goal.returns-in-default
 returns-in-default c =
@@ -23,4 +23,4 @@ returns-in-default c =
     let e : ◌≡◌ {A = Answer} (Ok None) (insert_of include_words kind tag value) =
     sym (ap (λ b. cond b (spec_of include_words tag value) (Ok None)) (not_scalar kind c.in-default.not-Scalar)) in
     let P : Answer → Type 0 = λ r. Decides (is_insert include_words kind tag) (r ≡ Ok None → ⊥) in
-    record { is-the-insert = e; answers-exactly-inserts = subst P (sym e) (answered_decides include_words include_words_hashless kind tag value) }
+    record { is_the_insert = e; answers_exactly_inserts = subst P (sym e) (answered_decides include_words include_words_hashless kind tag value) }

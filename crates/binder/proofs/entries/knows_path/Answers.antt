@@ -11,8 +11,8 @@ returns-then-same c =
     let path = c.args.path.now in
     let rest = c.loop.rest.now in
     let more = walk_more c.args.n c.loop.counter rest (omega arith) in
-    let hit = ap (λ p. bytes_eq p path) (sym c.path-of.ensures.is-the-path) ∙ sym c.if-same.ensures.value in
-    record { tells-whether-known = sym (known_here _ _ path (entry_of rest) more hit) ∙ c.loop.invariant }
+    let hit = ap (λ p. bytes_eq p path) (sym c.path_of.ensures.is_the_path) ∙ sym c.if-same.ensures.value in
+    record { tells_whether_known = sym (known_here _ _ path (entry_of rest) more hit) ∙ c.loop.invariant }
 
 pub loop-preserved : goal.loop-preserved
 loop-preserved c =
@@ -20,5 +20,5 @@ loop-preserved c =
     let rest = c.loop.rest.now in
     let left = c.args.n - (c.loop.counter + 1) in
     let more = walk_more c.args.n c.loop.counter rest (omega arith) in
-    let miss = ap (λ p. bytes_eq p path) (sym c.path-of.ensures.is-the-path) ∙ sym c.if-same.ensures.value in
-    ap (λ r. known (walk left r) path) c.behind-entry-rest.ensures.is-behind-the-entry ∙ sym (known_next _ _ path (entry_of rest) more miss) ∙ c.loop.invariant
+    let miss = ap (λ p. bytes_eq p path) (sym c.path_of.ensures.is_the_path) ∙ sym c.if-same.ensures.value in
+    ap (λ r. known (walk left r) path) c.behind_entry-rest.ensures.is_behind_the_entry ∙ sym (known_next _ _ path (entry_of rest) more miss) ∙ c.loop.invariant

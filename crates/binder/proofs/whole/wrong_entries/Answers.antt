@@ -12,7 +12,7 @@ returns-in-Some c =
     let before = walk i c.args.entries.now in
     let others = wrong_from (n - (i + 1)) (before ++ entry_of rest ∷ []) (c.loop-i.place + entry_length rest) (behind_entry rest) in
     record {
-      is-the-first-wrong-field = ap (λ o. or_else o others) c.in-Some.ensures.is-the-first-wrong-field ∙ sym (wrong_from_more n i before c.loop-i.place rest (omega arith)) ∙ c.loop-i.invariant.0;
+      is_the_first_wrong_field = ap (λ o. or_else o others) c.in-Some.ensures.is_the_first_wrong_field ∙ sym (wrong_from_more n i before c.loop-i.place rest (omega arith)) ∙ c.loop-i.invariant.0;
     }
 
 pub loop-i-preserved : goal.loop-i-preserved
@@ -25,10 +25,10 @@ loop-i-preserved c =
     let before = walk i entries in
     let others : List Entry → Option ℕ = λ es. wrong_from left es (p + entry_length rest) (behind_entry rest) in
     let came = c.loop-i.invariant.1 in
-    let behind = c.behind-entry-rest.ensures.is-behind-the-entry in
+    let behind = c.behind_entry-rest.ensures.is_behind_the_entry in
     let pushed : walk (i + 1) entries ≡ before ++ entry_of rest ∷ [] = walk_push i entries ∙ ap (λ r. before ++ entry_of r ∷ []) (sym came) in (
-      (λ j. wrong_from left (pushed j) (p + (21 + c.path-len.ensures.is-the-first-byte j)) (behind j))
-          ∙ ap (λ o. or_else o (others (before ++ entry_of rest ∷ []))) c.in-default.ensures.is-the-first-wrong-field
+      (λ j. wrong_from left (pushed j) (p + (21 + c.path_len.ensures.is_the_first_byte j)) (behind j))
+          ∙ ap (λ o. or_else o (others (before ++ entry_of rest ∷ []))) c.in-default.ensures.is_the_first_wrong_field
           ∙ sym (wrong_from_more c.args.count i before p rest (omega arith))
           ∙ c.loop-i.invariant.0,
       behind ∙ ap behind_entry came ∙ sym (behind_push i entries),

@@ -12,14 +12,14 @@ test p s = path_is p (said_score s)
 pub returns-then-same : goal.returns-then-same
 returns-then-same c =
     let p = c.args.path.now in
-    record { some-path-is-equal = (sym (any_found (test p) c.args.scores.now c.loop-score.score-index c.score-item.result c.score-item.is c.loop-score-test.true (ap (λ b. bytes_eq b p) (sym c.as-slice.ensures.value) ∙ sym c.if-same.ensures.value)) ∙ c.loop-score.invariant) ∙ sym (any_map (path_is p) said_score c.args.scores.now) }
+    record { some_path_is_equal = (sym (any_found (test p) c.args.scores.now c.loop-score.score-index c.score-item.result c.score-item.is c.loop-score-test.true (ap (λ b. bytes_eq b p) (sym c.as_slice.ensures.value) ∙ sym c.if-same.ensures.value)) ∙ c.loop-score.invariant) ∙ sym (any_map (path_is p) said_score c.args.scores.now) }
 
 pub loop-score-preserved : goal.loop-score-preserved
 loop-score-preserved c =
     let p = c.args.path.now in
-    sym (any_passes (test p) c.args.scores.now c.loop-score.score-index c.score-item.result c.score-item.is c.loop-score-test.true (ap (λ b. bytes_eq b p) (sym c.as-slice.ensures.value) ∙ sym c.if-same.ensures.value)) ∙ c.loop-score.invariant
+    sym (any_passes (test p) c.args.scores.now c.loop-score.score-index c.score-item.result c.score-item.is c.loop-score-test.true (ap (λ b. bytes_eq b p) (sym c.as_slice.ensures.value) ∙ sym c.if-same.ensures.value)) ∙ c.loop-score.invariant
 
 pub returns : goal.returns
 returns c =
     let p = c.args.path.now in
-    record { some-path-is-equal = (sym (any_ends (test p) c.args.scores.now c.loop-score.score-index c.loop-score-test.false) ∙ c.loop-score.invariant) ∙ sym (any_map (path_is p) said_score c.args.scores.now) }
+    record { some_path_is_equal = (sym (any_ends (test p) c.args.scores.now c.loop-score.score-index c.loop-score-test.false) ∙ c.loop-score.invariant) ∙ sym (any_map (path_is p) said_score c.args.scores.now) }

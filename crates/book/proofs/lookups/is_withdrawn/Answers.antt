@@ -10,10 +10,10 @@ abbrev item_at : List Withdrawal → ℕ → Withdrawal
 item_at xs i = get_or xs i (record { number = 0; line = 0 })
 
 pub returns-then-entry-number : goal.returns-then-entry-number
-returns-then-entry-number c = record { some-line-withdraws-it = sym (any_found (withdraws c.args.number) c.args.withdrawn.now c.loop-entry.entry-index (item_at c.args.withdrawn.now c.loop-entry.entry-index) (get_or_default c.args.withdrawn.now c.loop-entry.entry-index _ _ c.loop-entry-test.true) c.loop-entry-test.true (eq-eqb _ _ c.if-entry-number.true)) ∙ c.loop-entry.invariant }
+returns-then-entry-number c = record { some_line_withdraws_it = sym (any_found (withdraws c.args.number) c.args.withdrawn.now c.loop-entry.entry-index (item_at c.args.withdrawn.now c.loop-entry.entry-index) (get_or_default c.args.withdrawn.now c.loop-entry.entry-index _ _ c.loop-entry-test.true) c.loop-entry-test.true (eq-eqb _ _ c.if-entry-number.true)) ∙ c.loop-entry.invariant }
 
 pub loop-entry-preserved : goal.loop-entry-preserved
 loop-entry-preserved c = sym (any_passes (withdraws c.args.number) c.args.withdrawn.now c.loop-entry.entry-index (item_at c.args.withdrawn.now c.loop-entry.entry-index) (get_or_default c.args.withdrawn.now c.loop-entry.entry-index _ _ c.loop-entry-test.true) c.loop-entry-test.true (ne_eqb _ _ c.if-entry-number.false)) ∙ c.loop-entry.invariant
 
 pub returns : goal.returns
-returns c = record { some-line-withdraws-it = sym (any_ends (withdraws c.args.number) c.args.withdrawn.now c.loop-entry.entry-index c.loop-entry-test.false) ∙ c.loop-entry.invariant }
+returns c = record { some_line_withdraws_it = sym (any_ends (withdraws c.args.number) c.args.withdrawn.now c.loop-entry.entry-index c.loop-entry-test.false) ∙ c.loop-entry.invariant }

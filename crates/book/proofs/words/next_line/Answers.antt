@@ -9,5 +9,5 @@ returns c =
     record {
       first = cc;
       later = cc;
-      shorter = omega (arith, ap length c.behind-2.ensures.value, length-drop 1 c.behind.result.now, ap length c.behind.ensures.value, length-drop c.place-of-end.result c.args.s.now);
+      shorter = omega (arith, ap length c.behind-2.ensures.value, length-drop 1 c.behind.result.now, ap length c.behind.ensures.value, length-drop c.place_of-end.result c.args.s.now);
     }

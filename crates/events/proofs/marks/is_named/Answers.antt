@@ -7,4 +7,4 @@ use Rattle.events.proofs.marks.is_named.Goals as goal
 
 pub returns-in-Some : goal.returns-in-Some
 returns-in-Some c =
-    same_from_decides _ _ (slice_eq-Decides Decides-eqb _ _ _ c.eq.ensures) (bytes_eq-Decides _ _) ∙ ap (λ o. onward o (λ (text : List ℕ). bytes_eq text c.args.name.now)) c.in-Some.ensures.is-the-part-inside
+    same_from_decides _ _ (slice_eq-Decides Decides-eqb _ _ _ c.eq.ensures) (bytes_eq-Decides _ _) ∙ ap (λ o. onward o (λ (text : List ℕ). bytes_eq text c.args.name.now)) c.in-Some.ensures.is_the_part_inside

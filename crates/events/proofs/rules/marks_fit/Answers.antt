@@ -4,13 +4,13 @@ use Rattle.events.specs.Scores.{no_mark}
 use Rattle.events.proofs.Loops.{all_passes, all_fails, all_ends}
 use Rattle.events.proofs.rules.marks_fit.Goals as goal
 
-pub returns-then-not-lies-within : goal.returns-then-not-lies-within
-returns-then-not-lies-within c =
-    sym (all_fails (mark_fits c.args.size) c.args.marks.now c.loop-mark.mark-index no_mark c.loop-mark-test.true (sym c.if-not-lies-within.ensures.lies-inside-without-wrapping)) ∙ c.loop-mark.invariant
+pub returns-then-not-lies_within : goal.returns-then-not-lies_within
+returns-then-not-lies_within c =
+    sym (all_fails (mark_fits c.args.size) c.args.marks.now c.loop-mark.mark-index no_mark c.loop-mark-test.true (sym c.if-not-lies_within.ensures.lies_inside_without_wrapping)) ∙ c.loop-mark.invariant
 
 pub loop-mark-preserved : goal.loop-mark-preserved
 loop-mark-preserved c =
-    sym (all_passes (mark_fits c.args.size) c.args.marks.now c.loop-mark.mark-index no_mark c.loop-mark-test.true (sym c.if-not-lies-within.ensures.lies-inside-without-wrapping)) ∙ c.loop-mark.invariant
+    sym (all_passes (mark_fits c.args.size) c.args.marks.now c.loop-mark.mark-index no_mark c.loop-mark-test.true (sym c.if-not-lies_within.ensures.lies_inside_without_wrapping)) ∙ c.loop-mark.invariant
 
 pub returns : goal.returns
 returns c =

@@ -22,32 +22,32 @@ laws =
       the_tape_only_grows = the_tape_only_grows;
     }
 
-pub returns-then-slate-lt-SLATE-BYTES : goal.returns-then-slate-lt-SLATE-BYTES
-returns-then-slate-lt-SLATE-BYTES c =
+pub returns-then-slate-lt-SLATE_BYTES : goal.returns-then-slate-lt-SLATE_BYTES
+returns-then-slate-lt-SLATE_BYTES c =
     let w = wanted (lists c.args.stock) c.args.piece c.args.name.now c.args.limits.now in
     let l = lent c.args.slate.now c.args.tape.now c.args.charges.now c.args.enforcer.now in
-    let e = short_slate w l c.if-slate-lt-SLATE-BYTES.true in
-    record { answers-and-leaves-as-defined = e; is-the-unfolding-of-the-target = means w l c.args.limits.now.none_too_large _ e; keeps-the-laws-of-unfolding = laws; gloria-unfolds-as-computed = examples }
+    let e = short_slate w l c.if-slate-lt-SLATE_BYTES.true in
+    record { answers_and_leaves_as_defined = e; is_the_unfolding_of_the_target = means w l c.args.limits.now.none_too_large _ e; keeps_the_laws_of_unfolding = laws; gloria_unfolds_as_computed = examples }
 
-pub unfold-named-requires : goal.unfold-named-requires
-unfold-named-requires c =
-    let w = c.wipe.ensures.the-first-256-are-0 in
-    record { long = omega (arith, c.wipe.auto.slate, c.if-slate-lt-SLATE-BYTES.false); wiped = ap wiped w ∙ wiped_again c.args.slate.now ∙ sym w }
+pub unfold_named-requires : goal.unfold_named-requires
+unfold_named-requires c =
+    let w = c.wipe.ensures.the_first_256_are_0 in
+    record { long = omega (arith, c.wipe.auto.slate, c.if-slate-lt-SLATE_BYTES.false); wiped = ap wiped w ∙ wiped_again c.args.slate.now ∙ sym w }
 
 pub returns-in-Some : goal.returns-in-Some
 returns-in-Some c =
     let w = wanted (lists c.args.stock) c.args.piece c.args.name.now c.args.limits.now in
     let l = lent c.args.slate.now c.args.tape.now c.args.charges.now c.args.enforcer.now in
     let k = lent c.wipe.new.slate c.args.tape.now c.args.charges.now c.args.enforcer.now in
-    let wiping = ap (λ s. lent s c.args.tape.now c.args.charges.now c.args.enforcer.now) c.wipe.ensures.the-first-256-are-0 in
-    let e = unsound_piece w l c.if-slate-lt-SLATE-BYTES.false (told c.check-checked.result) c.check-checked.ensures.judges-the-rules k wiping c.in-Some.rule c.in-Some.is in
-    record { answers-and-leaves-as-defined = e; is-the-unfolding-of-the-target = means w l c.args.limits.now.none_too_large _ e; keeps-the-laws-of-unfolding = laws; gloria-unfolds-as-computed = examples }
+    let wiping = ap (λ s. lent s c.args.tape.now c.args.charges.now c.args.enforcer.now) c.wipe.ensures.the_first_256_are_0 in
+    let e = unsound_piece w l c.if-slate-lt-SLATE_BYTES.false (told c.check-checked.result) c.check-checked.ensures.judges_the_rules k wiping c.in-Some.rule c.in-Some.is in
+    record { answers_and_leaves_as_defined = e; is_the_unfolding_of_the_target = means w l c.args.limits.now.none_too_large _ e; keeps_the_laws_of_unfolding = laws; gloria_unfolds_as_computed = examples }
 
 pub returns-in-None : goal.returns-in-None
 returns-in-None c =
     let w = wanted (lists c.args.stock) c.args.piece c.args.name.now c.args.limits.now in
     let l = lent c.args.slate.now c.args.tape.now c.args.charges.now c.args.enforcer.now in
     let k = lent c.wipe.new.slate c.args.tape.now c.args.charges.now c.args.enforcer.now in
-    let wiping = ap (λ s. lent s c.args.tape.now c.args.charges.now c.args.enforcer.now) c.wipe.ensures.the-first-256-are-0 in
-    let e = sound_piece w l c.if-slate-lt-SLATE-BYTES.false (told c.check-checked.result) c.check-checked.ensures.judges-the-rules k wiping c.in-None.is _ c.unfold-named.ensures.collects-and-unfolds in
-    record { answers-and-leaves-as-defined = e; is-the-unfolding-of-the-target = means w l c.args.limits.now.none_too_large _ e; keeps-the-laws-of-unfolding = laws; gloria-unfolds-as-computed = examples }
+    let wiping = ap (λ s. lent s c.args.tape.now c.args.charges.now c.args.enforcer.now) c.wipe.ensures.the_first_256_are_0 in
+    let e = sound_piece w l c.if-slate-lt-SLATE_BYTES.false (told c.check-checked.result) c.check-checked.ensures.judges_the_rules k wiping c.in-None.is _ c.unfold_named.ensures.collects_and_unfolds in
+    record { answers_and_leaves_as_defined = e; is_the_unfolding_of_the_target = means w l c.args.limits.now.none_too_large _ e; keeps_the_laws_of_unfolding = laws; gloria_unfolds_as_computed = examples }

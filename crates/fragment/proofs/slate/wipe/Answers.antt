@@ -13,4 +13,4 @@ loop-number-preserved c =
 pub returns : goal.returns
 returns c =
     let e : c.loop-number.number ≡ 256 = omega (arith, c.loop-number.auto.number-end) in
-    record { the-first-256-are-0 = c.loop-number.invariant ∙ ap (λ n. cleared n c.args.slate.now) e ∙ wiped_is c.args.slate.now }
+    record { the_first_256_are_0 = c.loop-number.invariant ∙ ap (λ n. cleared n c.args.slate.now) e ∙ wiped_is c.args.slate.now }

@@ -14,8 +14,8 @@ parts_same o o' m m' a a' t t' p p' s v v' e₁ e₂ e₃ e₄ e₅ e₆ = cc
 pub returns : goal.returns
 returns c =
     let l = said c.args.line.now in
-    let printed : vec_items c.push-value.new.out ≡ shown l =
-    pushed_four _ _ _ _ _ _ _ _ _ c.new-out.ensures.items c.in-ok-extend-from-slice.ensures.items c.in-ok-push-name.ensures.value c.in-ok-push-tag.ensures.value c.in-ok-push-value.ensures.value
-    ∙ parts_same _ _ _ _ _ _ _ _ _ _ _ _ _ c.opener-of.ensures.value (c.name-mark.ensures.value ∙ ap name_mark c.shape-of-shape.ensures.value) c.as-slice.ensures.value c.as-slice-2.ensures.value c.shape-of-shape.ensures.value c.as-slice-3.ensures.value in
-    let fair : printable l ≡ true = sym c.if-not-is-printable.ensures.reads-back-if-printed in
-    record { is-the-printed-line = (fair, printed); reads_back = ap line_of printed ∙ reads_back l fair }
+    let printed : vec_items c.push_value.new.out ≡ shown l =
+    pushed_four _ _ _ _ _ _ _ _ _ c.new-out.ensures.items c.in-ok-extend_from_slice.ensures.items c.in-ok-push_name.ensures.value c.in-ok-push_tag.ensures.value c.in-ok-push_value.ensures.value
+    ∙ parts_same _ _ _ _ _ _ _ _ _ _ _ _ _ c.opener_of.ensures.value (c.name_mark.ensures.value ∙ ap name_mark c.shape_of-shape.ensures.value) c.as_slice.ensures.value c.as_slice-2.ensures.value c.shape_of-shape.ensures.value c.as_slice-3.ensures.value in
+    let fair : printable l ≡ true = sym c.if-not-is_printable.ensures.reads_back_if_printed in
+    record { is_the_printed_line = (fair, printed); reads_back = ap line_of printed ∙ reads_back l fair }

@@ -4,4 +4,4 @@ use Rattle.notation.proofs.printing.push_tag.Goals as goal
 
 pub returns-in-ok-push : goal.returns-in-ok-push
 returns-in-ok-push c =
-    record { value = pushed_tag _ _ _ _ _ (sym c.if-not-empty.ensures.value) c.in-ok-extend-from-slice.ensures.items c.in-ok-extend-from-slice-2.ensures.items c.in-ok-push.ensures.items }
+    record { value = pushed_tag _ _ _ _ _ (sym c.if-not-empty.ensures.value) c.in-ok-extend_from_slice.ensures.items c.in-ok-extend_from_slice-2.ensures.items c.in-ok-push.ensures.items }

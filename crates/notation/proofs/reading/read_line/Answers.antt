@@ -7,6 +7,6 @@ pub returns : goal.returns
 returns c =
     let parts = c.in-ok-parts.parts in
     record {
-      is-the-reading-of-the-line = search rules;
-      prints-again = read_printable c.args.bytes.now (said (record { kind = parts.kind; anchor = c.in-ok-anchor.anchor; tag = c.in-ok-tag.tag; style = parts.style; value = c.in-ok-value.value })) (search rules);
+      is_the_reading_of_the_line = search rules;
+      prints_again = read_printable c.args.bytes.now (said (record { kind = parts.kind; anchor = c.in-ok-anchor.anchor; tag = c.in-ok-tag.tag; style = parts.style; value = c.in-ok-value.value })) (search rules);
     }

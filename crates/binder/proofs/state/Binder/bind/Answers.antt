@@ -22,33 +22,33 @@ exactly bs small was r is p q =
 pub invariant-of-self : goal.invariant-of-self
 invariant-of-self c =
     let bs = c.args.bytes.now in
-    let none : wrong bs ≡ None = sym c.in-default.ensures.is-the-first-wrong-field in
-    (ap length c.new-flags.ensures.none-is-set ∙ length-replicate 256 false, ((wrong_none bs none).0.few, (ap fine none, tt)))
+    let none : wrong bs ≡ None = sym c.in-default.ensures.is_the_first_wrong_field in
+    (ap length c.new-flags.ensures.none_is_set ∙ length-replicate 256 false, ((wrong_none bs none).0.few, (ap fine none, tt)))
 
 pub returns-in-Some : goal.returns-in-Some
 returns-in-Some c =
     let bs = c.args.bytes.now in
     let was = entries_of c.args.self.now in
-    let found : wrong bs ≡ Some c.in-Some.place = sym c.in-Some.ensures.is-the-first-wrong-field in
+    let found : wrong bs ≡ Some c.in-Some.place = sym c.in-Some.ensures.is_the_first_wrong_field in
     let tells = sym (ap (λ o. (bound_by (parsed_by o (listed bs)) was).answer) found) in
     let means = sym (ap (λ o. (bound_by (parsed_by o (listed bs)) was).entries) found) in
     record {
-      tells-the-first-wrong-field = tells;
-      a-binder-means-its-bytes = means;
-      refused-bytes-change-nothing = λ _. refl;
-      accepted-exactly-if-packed = exactly bs c.type-inv.bytes was _ _ tells means;
+      tells_the_first_wrong_field = tells;
+      a_binder_means_its_bytes = means;
+      refused_bytes_change_nothing = λ _. refl;
+      accepted_exactly_if_packed = exactly bs c.type-inv.bytes was _ _ tells means;
     }
 
 pub returns : goal.returns
 returns c =
     let bs = c.args.bytes.now in
     let was = entries_of c.args.self.now in
-    let none : wrong bs ≡ None = sym c.in-default.ensures.is-the-first-wrong-field in
+    let none : wrong bs ≡ None = sym c.in-default.ensures.is_the_first_wrong_field in
     let tells = sym (ap (λ o. (bound_by (parsed_by o (listed bs)) was).answer) none) in
-    let means = ap (λ fs. flagged 0 fs (listed bs)) c.new-flags.ensures.none-is-set ∙ flagged_fresh 0 256 (count_of bs) (drop 7 bs) ∙ sym (ap (λ o. (bound_by (parsed_by o (listed bs)) was).entries) none) in
+    let means = ap (λ fs. flagged 0 fs (listed bs)) c.new-flags.ensures.none_is_set ∙ flagged_fresh 0 256 (count_of bs) (drop 7 bs) ∙ sym (ap (λ o. (bound_by (parsed_by o (listed bs)) was).entries) none) in
     record {
-      tells-the-first-wrong-field = tells;
-      a-binder-means-its-bytes = means;
-      refused-bytes-change-nothing = λ h. absurd (false≢true h);
-      accepted-exactly-if-packed = exactly bs c.type-inv.bytes was _ _ tells means;
+      tells_the_first_wrong_field = tells;
+      a_binder_means_its_bytes = means;
+      refused_bytes_change_nothing = λ h. absurd (false≢true h);
+      accepted_exactly_if_packed = exactly bs c.type-inv.bytes was _ _ tells means;
     }

@@ -19,26 +19,26 @@ new_path d s scores path e p v = sym (v ∙ (ap (λ l. any (path_is path) (said_
 counted : (d : Draft) (scores : List ScoreLine) → scores ≡ vec_items d.scores → length scores ≡ vec_len d.scores → length (said_scores (vec_items d.scores)) ≡ vec_len d.scores
 counted d scores e n = length-map (vec_items d.scores) said_score ∙ (sym (ap length e) ∙ n)
 
-pub returns-then-len-ge-MOST-SCORES : goal.returns-then-len-ge-MOST-SCORES
-returns-then-len-ge-MOST-SCORES c =
+pub returns-then-len-ge-MOST_SCORES : goal.returns-then-len-ge-MOST_SCORES
+returns-then-len-ge-MOST_SCORES c =
     let d = c.args.self.now in
     let s = c.args.score in
-    let new = new_path d s _ _ c.as-slice.ensures.value c.as-slice-2.ensures.value c.if-has-path.ensures.some-path-is-equal in
-    let many = counted d _ c.as-slice.ensures.value c.as-slice.ensures.len in
-    record { value = inr (score_too_many (said_score s) (said_draft d) new (omega (arith, many, c.len.ensures, c.if-len-ge-MOST-SCORES.true))) }
+    let new = new_path d s _ _ c.as_slice.ensures.value c.as_slice-2.ensures.value c.if-has_path.ensures.some_path_is_equal in
+    let many = counted d _ c.as_slice.ensures.value c.as_slice.ensures.len in
+    record { value = inr (score_too_many (said_score s) (said_draft d) new (omega (arith, many, c.len.ensures, c.if-len-ge-MOST_SCORES.true))) }
 
 pub invariant-of-self : goal.invariant-of-self
 invariant-of-self c =
     let d = c.args.self.now in
     let s = c.args.score in
-    let new = new_path d s _ _ c.as-slice.ensures.value c.as-slice-2.ensures.value c.if-has-path.ensures.some-path-is-equal in
-    (pushed_few (is_ok c.push.result) (vec_len d.scores) _ c.push.ensures.len (omega (arith, c.len.ensures, c.if-len-ge-MOST-SCORES.false)), (pushed_distinct (is_ok c.push.result) (vec_items d.scores) _ s c.push.ensures.items d.paths_are_distinct new, tt))
+    let new = new_path d s _ _ c.as_slice.ensures.value c.as_slice-2.ensures.value c.if-has_path.ensures.some_path_is_equal in
+    (pushed_few (is_ok c.push.result) (vec_len d.scores) _ c.push.ensures.len (omega (arith, c.len.ensures, c.if-len-ge-MOST_SCORES.false)), (pushed_distinct (is_ok c.push.result) (vec_items d.scores) _ s c.push.ensures.items d.paths_are_distinct new, tt))
 
 pub returns : goal.returns
 returns c =
     let d = c.args.self.now in
     let s = c.args.score in
-    let new = new_path d s _ _ c.as-slice.ensures.value c.as-slice-2.ensures.value c.if-has-path.ensures.some-path-is-equal in
-    let many = counted d _ c.as-slice.ensures.value c.as-slice.ensures.len in
-    let few : length (said_scores (vec_items d.scores)) < 256 = omega (arith, many, c.len.ensures, c.if-len-ge-MOST-SCORES.false) in
+    let new = new_path d s _ _ c.as_slice.ensures.value c.as_slice-2.ensures.value c.if-has_path.ensures.some_path_is_equal in
+    let many = counted d _ c.as_slice.ensures.value c.as_slice.ensures.len in
+    let few : length (said_scores (vec_items d.scores)) < 256 = omega (arith, many, c.len.ensures, c.if-len-ge-MOST_SCORES.false) in
     record { value = score_added (said_score s) (said_draft d) new few ∙ ap (λ l. Ok (record { main = option_map vec_items d.main; scores = l; withdrawn = vec_items d.withdrawn })) (sym (ap said_scores c.in-ok-push.ensures.items ∙ map_last said_score (vec_items d.scores) s)) }

@@ -5,4 +5,4 @@ use Rattle.budget.proofs.containers.OpenContainers.key_next.Goals as goal
 
 pub returns : goal.returns
 returns c =
-    c.awaits-key.ensures ∙ sym (ap key_next (stack_more c.args.self.now.states c.args.self.now.depth (omega arith)))
+    c.awaits_key.ensures ∙ sym (ap key_next (stack_more c.args.self.now.states c.args.self.now.depth (omega arith)))

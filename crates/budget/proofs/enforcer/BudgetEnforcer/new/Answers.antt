@@ -19,10 +19,10 @@ returns c =
     let made : BudgetEnforcer = record { limits = l; policy = p; merge_keys = k; report = c.new.result; containers = c.new-2.result; anchors = c.new-3.result } in
     let same : view made ≡ started l.budget p k = λ i. with_flags (with_around (with_report (started l.budget p k) (c.new.ensures i)) (c.new-2.ensures i)) (c.new-3.ensures i) in
     record {
-      starts-with-nothing-observed = same;
-      starts-within-the-limits = subst Within (sym same) (started_within l.budget p k);
-      each-count-is-what-was-observed-since-the-reset = subst CountsWhatIsObserved (sym same) (counts_what_is_observed a l.budget p k w);
-      the-anchors-counted-are-distinct-numbers = subst CountsDistinctAnchors (sym same) (counts_distinct_anchors a l.budget p k w);
-      without-a-breach-the-last-report-is-the-report = subst EndsWithTheReport (sym same) (ends_with_the_report a l.budget p k w);
-      a-breach-tells-the-counts-and-a-passed-limit = subst ABreachTellsAPassedLimit (sym same) (a_breach_tells_a_passed_limit a l.budget p k w);
+      starts_with_nothing_observed = same;
+      starts_within_the_limits = subst Within (sym same) (started_within l.budget p k);
+      each_count_is_what_was_observed_since_the_reset = subst CountsWhatIsObserved (sym same) (counts_what_is_observed a l.budget p k w);
+      the_anchors_counted_are_distinct_numbers = subst CountsDistinctAnchors (sym same) (counts_distinct_anchors a l.budget p k w);
+      without_a_breach_the_last_report_is_the_report = subst EndsWithTheReport (sym same) (ends_with_the_report a l.budget p k w);
+      a_breach_tells_the_counts_and_a_passed_limit = subst ABreachTellsAPassedLimit (sym same) (a_breach_tells_a_passed_limit a l.budget p k w);
     }

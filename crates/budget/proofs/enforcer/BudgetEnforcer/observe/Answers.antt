@@ -14,11 +14,11 @@ returns-in-Some c =
     let answer = stuck_answer s i b c.in-Some.is in
     let state = stuck_state s i b c.in-Some.is in
     record {
-      answers-as-defined = answer;
-      leaves-as-defined = state;
-      a-breach-is-answered-for-ever = breach_for_ever s i (Err b) (view s) answer state;
-      a-good-answer-counts-exactly = good_counts s i (Err b) (view s) answer state;
-      a-good-answer-stays-within-the-limits = good_within s i (Err b) (view s) answer state;
+      answers_as_defined = answer;
+      leaves_as_defined = state;
+      a_breach_is_answered_for_ever = breach_for_ever s i (Err b) (view s) answer state;
+      a_good_answer_counts_exactly = good_counts s i (Err b) (view s) answer state;
+      a_good_answer_stays_within_the_limits = good_within s i (Err b) (view s) answer state;
       key_and_value_alternate = alternating s;
     }
 
@@ -31,10 +31,10 @@ returns c =
     let answer : r ≡ (observed i (view s)).1 = search rules in
     let state : n ≡ (observed i (view s)).0 = search rules in
     record {
-      answers-as-defined = answer;
-      leaves-as-defined = state;
-      a-breach-is-answered-for-ever = breach_for_ever s i r n answer state;
-      a-good-answer-counts-exactly = good_counts s i r n answer state;
-      a-good-answer-stays-within-the-limits = good_within s i r n answer state;
+      answers_as_defined = answer;
+      leaves_as_defined = state;
+      a_breach_is_answered_for_ever = breach_for_ever s i r n answer state;
+      a_good_answer_counts_exactly = good_counts s i r n answer state;
+      a_good_answer_stays_within_the_limits = good_within s i r n answer state;
       key_and_value_alternate = alternating s;
     }

@@ -13,25 +13,25 @@ returns-in-Some c =
     let answer = stuck_answer s i b c.in-Some.is in
     let state = stuck_state s i b c.in-Some.is in
     record {
-      answers-as-defined = answer;
-      leaves-as-defined = state;
-      a-breach-is-answered-for-ever = breach_for_ever s i (Err b) (view s) answer state;
-      a-good-answer-counts-exactly = good_counts s i (Err b) (view s) answer state;
-      a-good-answer-stays-within-the-limits = good_within s i (Err b) (view s) answer state;
+      answers_as_defined = answer;
+      leaves_as_defined = state;
+      a_breach_is_answered_for_ever = breach_for_ever s i (Err b) (view s) answer state;
+      a_good_answer_counts_exactly = good_counts s i (Err b) (view s) answer state;
+      a_good_answer_stays_within_the_limits = good_within s i (Err b) (view s) answer state;
     }
 
 pub returns : goal.returns
 returns c =
     let s = c.args.self.now in
     let i = reference in
-    let r = c.count-reference-result.result in
+    let r = c.count_reference-result.result in
     let n = view c.remember.new.self in
     let answer : r ≡ (observed i (view s)).1 = search rules in
     let state : n ≡ (observed i (view s)).0 = search rules in
     record {
-      answers-as-defined = answer;
-      leaves-as-defined = state;
-      a-breach-is-answered-for-ever = breach_for_ever s i r n answer state;
-      a-good-answer-counts-exactly = good_counts s i r n answer state;
-      a-good-answer-stays-within-the-limits = good_within s i r n answer state;
+      answers_as_defined = answer;
+      leaves_as_defined = state;
+      a_breach_is_answered_for_ever = breach_for_ever s i r n answer state;
+      a_good_answer_counts_exactly = good_counts s i r n answer state;
+      a_good_answer_stays_within_the_limits = good_within s i r n answer state;
     }

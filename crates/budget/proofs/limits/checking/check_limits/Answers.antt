@@ -5,11 +5,11 @@ use Rattle.budget.proofs.limits.checking.check_limits.Goals as goal
 
 pub invariant-of-result : goal.invariant-of-result
 invariant-of-result c =
-    let none : first_too_large c.args.budget c.args.alias_limits ≡ None = sym c.first-too-large.ensures ∙ c.in-None.is in
+    let none : first_too_large c.args.budget c.args.alias_limits ≡ None = sym c.first_too_large.ensures ∙ c.in-None.is in
     (ap is_none none, ((bounds c.args.budget c.args.alias_limits (ap is_none none)).depth, tt))
 
 pub returns-in-Some : goal.returns-in-Some
-returns-in-Some c = record { tells-the-first-too-large-or-checks-all = ap (λ o. judgement o c.args.budget c.args.alias_limits) (sym c.in-Some.is ∙ c.first-too-large.ensures) }
+returns-in-Some c = record { tells_the_first_too_large_or_checks_all = ap (λ o. judgement o c.args.budget c.args.alias_limits) (sym c.in-Some.is ∙ c.first_too_large.ensures) }
 
 pub returns-in-None : goal.returns-in-None
-returns-in-None c = record { tells-the-first-too-large-or-checks-all = ap (λ o. judgement o c.args.budget c.args.alias_limits) (sym c.in-None.is ∙ c.first-too-large.ensures) }
+returns-in-None c = record { tells_the_first_too_large_or_checks_all = ap (λ o. judgement o c.args.budget c.args.alias_limits) (sym c.in-None.is ∙ c.first_too_large.ensures) }

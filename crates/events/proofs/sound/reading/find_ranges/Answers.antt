@@ -4,13 +4,13 @@ use Rattle.events.specs.Nodes.{carries, ranges_from}
 use Rattle.events.proofs.Table.{ranges_length}
 use Rattle.events.proofs.Filling.{carriers_here, carriers_pass, ranges_more, ranges_pass, ranges_end, carriers_end}
 use Rattle.events.proofs.sound.reading.find_ranges.Goals as goal
-use Rattle.events.proofs.sound.reading.find_ranges.Goals.{then-carries-number, else-carries-number}
+use Rattle.events.proofs.sound.reading.find_ranges.Goals.{then-carries_number, else-carries_number}
 
 -- there is room for one range more
-has_room : (c : goal.After-node-end-last) → c.loop-place.count < length c.loop-place.ranges
+has_room : (c : goal.After-node_end-last) → c.loop-place.count < length c.loop-place.ranges
 has_room c =
     let es = c.args.events.now in
-    let h = carriers_here es c.loop-place.place c.loop-place-test.true (sym c.if-carries-number.ensures) in
+    let h = carriers_here es c.loop-place.place c.loop-place-test.true (sym c.if-carries_number.ensures) in
     let l = ranges_length es 0 in
     omega (arith, c.loop-place.invariant.1, c.requires.room, c.loop-place.auto.ranges)
 
@@ -30,7 +30,7 @@ loop-place-preserved c =
     let h = c.loop-place-test.true in
     let rs = c.loop-place.ranges in
     let n = c.loop-place.count in
-    elim c.if-carries-number.branch [ then-carries-number w ↦ let t = sym w.if-carries-number.ensures in let k = carriers_here es p h t in let l = ranges_length es 0 in rw (w.ranges-is, w.count-is, w.node-end-last.ensures) (ranges_more es p h t rs (ranges_from 0 es) n (omega (arith, c.loop-place.invariant.1, c.requires.room, c.loop-place.auto.ranges)) c.loop-place.invariant.0, omega (arith, k, c.loop-place.invariant.1)) | else-carries-number w ↦ let t = sym w.if-carries-number.ensures in let k = carriers_pass es p h t in rw (w.ranges-is, w.count-is) (ranges_pass es p h t rs (ranges_from 0 es) n c.loop-place.invariant.0, omega (arith, k, c.loop-place.invariant.1)) ]
+    elim c.if-carries_number.branch [ then-carries_number w ↦ let t = sym w.if-carries_number.ensures in let k = carriers_here es p h t in let l = ranges_length es 0 in rw (w.ranges-is, w.count-is, w.node_end-last.ensures) (ranges_more es p h t rs (ranges_from 0 es) n (omega (arith, c.loop-place.invariant.1, c.requires.room, c.loop-place.auto.ranges)) c.loop-place.invariant.0, omega (arith, k, c.loop-place.invariant.1)) | else-carries_number w ↦ let t = sym w.if-carries_number.ensures in let k = carriers_pass es p h t in rw (w.ranges-is, w.count-is) (ranges_pass es p h t rs (ranges_from 0 es) n c.loop-place.invariant.0, omega (arith, k, c.loop-place.invariant.1)) ]
 
 pub returns : goal.returns
 returns c =

@@ -12,8 +12,8 @@ pub loop-depth-preserved : goal.loop-depth-preserved
 loop-depth-preserved c =
     let es = c.args.events.now in
     let p = c.loop-depth.place in
-    let d = c.depth-after-depth.result in
-    let e : d ≡ deeper (kind (get_or es p no_event)) c.loop-depth.depth = c.depth-after-depth.ensures in
+    let d = c.depth_after-depth.result in
+    let e : d ≡ deeper (kind (get_or es p no_event)) c.loop-depth.depth = c.depth_after-depth.ensures in
     let more = closing_more es c.loop-depth.depth p c.loop-depth.invariant.2 (λ q. c.if-depth-eq0.false (e ∙ q)) in
     let s : closing d (p + 1) (drop (p + 1) es) ≡ end_of es c.args.start = ap (λ n. closing n (p + 1) (drop (p + 1) es)) e ∙ sym more ∙ c.loop-depth.invariant.0 in
     let l = closing_le (drop (p + 1) es) d (p + 1) in
@@ -22,5 +22,5 @@ loop-depth-preserved c =
 pub returns : goal.returns
 returns c =
     let es = c.args.events.now in
-    let e : c.depth-after-depth.result ≡ deeper (kind (get_or es c.loop-depth.place no_event)) c.loop-depth.depth = c.depth-after-depth.ensures in
+    let e : c.depth_after-depth.result ≡ deeper (kind (get_or es c.loop-depth.place no_event)) c.loop-depth.depth = c.depth_after-depth.ensures in
     sym (closing_stops es c.loop-depth.depth c.loop-depth.place c.loop-depth.invariant.2 (sym e ∙ c.if-depth-eq0.true)) ∙ c.loop-depth.invariant.0

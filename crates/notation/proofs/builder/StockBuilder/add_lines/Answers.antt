@@ -19,20 +19,20 @@ loop-start-init c = (omega arith, grown_same _, λ h. h, begun, λ _. refl)
 pub returns-in-Err : goal.returns-in-Err
 returns-in-Err c =
     record {
-      grown = grown_trans c.loop-start.invariant.1 c.add-line.ensures.grown;
-      counted = λ h. c.add-line.ensures.counted (c.loop-start.invariant.2 h);
+      grown = grown_trans c.loop-start.invariant.1 c.add_line.ensures.grown;
+      counted = λ h. c.add_line.ensures.counted (c.loop-start.invariant.2 h);
       lines = tt;
       refused =
           let text = c.args.text.now in
           let i = c.loop-start.start in
-          let at = line_at_lem text i c.place-of.result _ _ c.behind-rest.ensures.value c.place-of.ensures.value c.front.ensures.value in
+          let at = line_at_lem text i c.place_of.result _ _ c.behind-rest.ensures.value c.place_of.ensures.value c.front.ensures.value in
           record {
             place = i;
             inside = c.loop-start-test.true;
             number = ap (λ n. n + 1) (c.loop-start.invariant.4 c.loop-start-test.true);
             lists = c.loop-start.self;
             reached = c.loop-start.invariant.3;
-            cause = subst (λ t. LineCause c.args.first-mark c.args.first-event t c.loop-start.self c.in-Err.fault) at c.in-Err.ensures.refused;
+            cause = subst (λ t. LineCause c.args.first_mark c.args.first_event t c.loop-start.self c.in-Err.fault) at c.in-Err.ensures.refused;
           };
     }
 
@@ -48,16 +48,16 @@ returns c =
 pub loop-start-preserved : goal.loop-start-preserved
 loop-start-preserved c = (
   (let h = c.loop-start.invariant.0 in omega arith),
-  grown_trans c.loop-start.invariant.1 c.add-line.ensures.grown,
-  λ h. c.add-line.ensures.counted (c.loop-start.invariant.2 h),
+  grown_trans c.loop-start.invariant.1 c.add_line.ensures.grown,
+  λ h. c.add_line.ensures.counted (c.loop-start.invariant.2 h),
   (let text = c.args.text.now in
       let i = c.loop-start.start in
       let rest = c.behind-rest.ensures.value in
-      reached_more c.args.first-mark text c.args.self.now i c.place-of.result _ _ _ c.loop-start.invariant.3 c.loop-start-test.true (c.place-of.ensures.value ∙ ap (place_of 10) rest) (c.front.ensures.value ∙ ap (take (i + c.place-of.result - i)) rest) c.in-default.ensures.step),
+      reached_more c.args.first_mark text c.args.self.now i c.place_of.result _ _ _ c.loop-start.invariant.3 c.loop-start-test.true (c.place_of.ensures.value ∙ ap (place_of 10) rest) (c.front.ensures.value ∙ ap (take (i + c.place_of.result - i)) rest) c.in-default.ensures.step),
   λ h.
       let text = c.args.text.now in
       let i = c.loop-start.start in
       let n = c.loop-start.invariant.4 c.loop-start-test.true in
-      let more = feeds_more text i c.place-of.result (c.place-of.ensures.value ∙ ap (place_of 10) c.behind-rest.ensures.value) (omega (arith, h)) in
+      let more = feeds_more text i c.place_of.result (c.place_of.ensures.value ∙ ap (place_of 10) c.behind-rest.ensures.value) (omega (arith, h)) in
       omega (arith, n, more),
 )

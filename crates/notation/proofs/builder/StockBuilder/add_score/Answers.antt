@@ -8,43 +8,43 @@ use Rattle.notation.proofs.builder.StockBuilder.add_score.Goals as goal
 
 pub returns-in-Err : goal.returns-in-Err
 returns-in-Err c =
-    let g = c.add-lines.ensures.grown in
+    let g = c.add_lines.ensures.grown in
     let a = c.args.self.now in
     record {
-      adds-the-events-of-its-lines = record {
+      adds_the_events_of_its_lines = record {
         bytes = c.truncate.ensures.items ∙ grows_cut c.len-bytes.result (let h = a.bytes.ok.0 in omega (arith, c.len-bytes.ensures)) g.bytes;
         marks = c.truncate-in-Err.ensures.items ∙ grows_cut c.len-marks.result (let h = a.marks.ok.0 in omega (arith, c.len-marks.ensures)) g.marks;
         events = c.truncate-in-Err-2.ensures.items ∙ grows_cut c.len-events.result (let h = a.events.ok.0 in omega (arith, c.len-events.ensures)) g.events;
       };
-      refused-with-its-cause = at_line (omega arith) (stopped_before c.args.text.now a c.in-Err.error c.text-end.result c.len-marks.ensures c.len-events.ensures c.front.ensures.value c.text-end.ensures.ended c.in-Err.ensures.refused);
-      refuses-a-text-that-is-too-long = λ h. absurd (omega (arith, h));
+      refused_with_its_cause = at_line (omega arith) (stopped_before c.args.text.now a c.in-Err.error c.text_end.result c.len-marks.ensures c.len-events.ensures c.front.ensures.value c.text_end.ensures.ended c.in-Err.ensures.refused);
+      refuses_a_text_that_is_too_long = λ h. absurd (omega (arith, h));
     }
 
 pub overflow-sub-marks : goal.overflow-sub-marks
 overflow-sub-marks c =
-    let h = grows_length c.add-lines.ensures.grown.marks in
+    let h = grows_length c.add_lines.ensures.grown.marks in
     let p = c.args.self.now.marks.ok.0 in
-    let q = c.add-lines.new.self.marks.ok.0 in
+    let q = c.add_lines.new.self.marks.ok.0 in
     omega (arith, c.len-marks.ensures, c.len.ensures)
 
 pub overflow-sub-events : goal.overflow-sub-events
 overflow-sub-events c =
-    let h = grows_length c.add-lines.ensures.grown.events in
+    let h = grows_length c.add_lines.ensures.grown.events in
     let p = c.args.self.now.events.ok.0 in
-    let q = c.add-lines.new.self.events.ok.0 in
+    let q = c.add_lines.new.self.events.ok.0 in
     omega (arith, c.len-events.ensures, c.len-2.ensures)
 
 pub returns : goal.returns
 returns c =
-    let g = c.add-lines.ensures.grown in
+    let g = c.add_lines.ensures.grown in
     let a = c.args.self.now in
-    let b = c.add-lines.new.self in
+    let b = c.add_lines.new.self in
     let lm : c.len-marks.result ≤ c.len.result = let h = grows_length g.marks in let p = a.marks.ok.0 in let q = b.marks.ok.0 in omega (arith, c.len-marks.ensures, c.len.ensures) in
     let le : c.len-events.result ≤ c.len-2.result = let h = grows_length g.events in let p = a.events.ok.0 in let q = b.events.ok.0 in omega (arith, c.len-events.ensures, c.len-2.ensures) in
     let start : Counted c.len-marks.result c.len-events.result a = record { marks = omega (arith, c.len-marks.ensures); events = omega (arith, c.len-events.ensures) } in
-    let counted : Counted c.len-marks.result c.len-events.result b = c.add-lines.ensures.counted start in
+    let counted : Counted c.len-marks.result c.len-events.result b = c.add_lines.ensures.counted start in
     record {
-      adds-the-events-of-its-lines = record {
+      adds_the_events_of_its_lines = record {
         grown = g;
         marks_start = c.len-marks.ensures;
         marks_end = omega (arith, c.len.ensures);
@@ -53,8 +53,8 @@ returns c =
         events_end = omega (arith, c.len-2.ensures);
         events_bound = omega (arith, c.len-2.ensures, counted.events);
         text_len = refl;
-        lines = read_through _ _ c.args.text.now _ c.text-end.result a b c.len-marks.ensures c.front.ensures.value c.text-end.ensures.ended c.in-default.ensures.lines;
+        lines = read_through _ _ c.args.text.now _ c.text_end.result a b c.len-marks.ensures c.front.ensures.value c.text_end.ensures.ended c.in-default.ensures.lines;
       };
-      refused-with-its-cause = tt;
-      refuses-a-text-that-is-too-long = λ h. absurd (omega (arith, h));
+      refused_with_its_cause = tt;
+      refuses_a_text_that_is_too_long = λ h. absurd (omega (arith, h));
     }

@@ -14,9 +14,9 @@ returns c =
       counted = λ m e h. record { marks = h.marks; events = h.events };
       marks = refl;
       events = refl;
-      value = holds_grows c.in-ok-value.value _ (holds_put (vec_items c.args.self.now.bytes) _ _ _ c.in-ok-value.value p.0 c.as-slice.ensures.value (let h = c.args.self.now.bytes.ok.0 in omega (arith, p.1)) p.2) (record { more = _; is = q.0 });
-      tag = holds_put (vec_items c.put-bytes.new.bytes) _ _ _ c.in-ok-tag.tag q.0 c.as-slice-2.ensures.value (let h = c.put-bytes.new.bytes.ok.0 in omega (arith, q.1)) q.2;
-      bytes = put_twice (vec_items c.args.self.now.bytes) _ _ (vec_items c.args.line.now.value) (vec_items c.args.line.now.tag) p.0 q.0 c.as-slice.ensures.value c.as-slice-2.ensures.value;
+      value = holds_grows c.in-ok-value.value _ (holds_put (vec_items c.args.self.now.bytes) _ _ _ c.in-ok-value.value p.0 c.as_slice.ensures.value (let h = c.args.self.now.bytes.ok.0 in omega (arith, p.1)) p.2) (record { more = _; is = q.0 });
+      tag = holds_put (vec_items c.put_bytes.new.bytes) _ _ _ c.in-ok-tag.tag q.0 c.as_slice-2.ensures.value (let h = c.put_bytes.new.bytes.ok.0 in omega (arith, q.1)) q.2;
+      bytes = put_twice (vec_items c.args.self.now.bytes) _ _ (vec_items c.args.line.now.value) (vec_items c.args.line.now.tag) p.0 q.0 c.as_slice.ensures.value c.as_slice-2.ensures.value;
       refused = tt;
     }
 
@@ -33,7 +33,7 @@ returns-in-err-value c =
       value = tt;
       tag = tt;
       bytes = tt;
-      refused = caused_weaker c.in-err-value.field-0.0 (λ e h. h) (λ h. h) (exceeded_before _ _ (vec_items line.value) (vec_items line.tag) c.as-slice.ensures.value) (λ h. h) (λ h. h) p.refused;
+      refused = caused_weaker c.in-err-value.field-0.0 (λ e h. h) (λ h. h) (exceeded_before _ _ (vec_items line.value) (vec_items line.tag) c.as_slice.ensures.value) (λ h. h) (λ h. h) p.refused;
     })
 
 pub returns-in-err-tag : goal.returns-in-err-tag
@@ -41,10 +41,10 @@ returns-in-err-tag c =
     let x = err_from_is_err_and c.from-residual-in-err-tag.result c.from-residual-in-err-tag.ensures.1 in
     let line = c.args.line.now in
     let held = c.args.self.now.bytes in
-    let held' = c.put-bytes.new.bytes in
+    let held' = c.put_bytes.new.bytes in
     let p = c.in-ok-value.ensures.placed in
     let q = c.in-err-tag.ensures in
-    let put : vec_items held' ≡ vec_items held ++ vec_items line.value = p.0 ∙ ap (λ l. vec_items held ++ l) c.as-slice.ensures.value in
+    let put : vec_items held' ≡ vec_items held ++ vec_items line.value = p.0 ∙ ap (λ l. vec_items held ++ l) c.as_slice.ensures.value in
     rw (x.1, x.2) (record {
       grown = record { bytes = grows_trans (record { more = _; is = put }) (grows_is q.placed); marks = grows_same _; events = grows_same _ };
       counted = λ m e h. record { marks = h.marks; events = h.events };
@@ -53,5 +53,5 @@ returns-in-err-tag c =
       value = tt;
       tag = tt;
       bytes = tt;
-      refused = caused_weaker c.in-err-tag.field-0.0 (λ e h. h) (λ h. h) (exceeded_behind _ _ (vec_items held) (vec_items held') _ (vec_items line.value) (vec_items line.tag) (let h = held.ok.0 in omega arith) (let h = held'.ok.0 in omega arith) put c.as-slice-2.ensures.value) (λ h. h) (λ h. h) q.refused;
+      refused = caused_weaker c.in-err-tag.field-0.0 (λ e h. h) (λ h. h) (exceeded_behind _ _ (vec_items held) (vec_items held') _ (vec_items line.value) (vec_items line.tag) (let h = held.ok.0 in omega arith) (let h = held'.ok.0 in omega arith) put c.as_slice-2.ensures.value) (λ h. h) (λ h. h) q.refused;
     })

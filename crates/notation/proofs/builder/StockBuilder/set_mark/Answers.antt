@@ -10,12 +10,12 @@ returns c =
       grown = search rules;
       counted = search rules;
       events = refl;
-      marking = made_from c.put-mark.result _ _ _ (λ n p. record {
+      marking = made_from c.put_mark.result _ _ _ (λ n p. record {
         mark = record { name = c.in-ok-run.run' };
         marks = p.0;
         named = holds_put (vec_items c.args.self.now.bytes) _ _ _ c.in-ok-run.run' put.0 refl (let h = c.args.self.now.bytes.ok.0 in omega (arith, put.1)) put.2;
         number = p.1;
-      }) c.put-mark.ensures.placed;
-      bytes = made_from c.put-mark.result _ _ _ (λ _ _. put.0) c.put-mark.ensures.placed;
-      refused = refusing_weaker c.put-mark.result (λ f. caused_weaker f (λ e h. h) (λ h. h) (λ h. absurd h) (λ h. h) (λ h. h)) c.put-mark.ensures.refused;
+      }) c.put_mark.ensures.placed;
+      bytes = made_from c.put_mark.result _ _ _ (λ _ _. put.0) c.put_mark.ensures.placed;
+      refused = refusing_weaker c.put_mark.result (λ f. caused_weaker f (λ e h. h) (λ h. h) (λ h. absurd h) (λ h. h) (λ h. h)) c.put_mark.ensures.refused;
     }

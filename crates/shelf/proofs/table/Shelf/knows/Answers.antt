@@ -6,17 +6,17 @@ use Rattle.catalogue.proofs.Lists.{known_here, known_next}
 use Rattle.shelf.proofs.Tables.{shelved_more, length_shelved}
 use Rattle.shelf.proofs.table.Shelf.knows.Goals as goal
 
-pub returns-then-has-path : goal.returns-then-has-path
-returns-then-has-path c =
+pub returns-then-has_path : goal.returns-then-has_path
+returns-then-has_path c =
     let n : c.args.self.now.count ≤ length c.args.self.now.places = omega arith in
     let more = shelved_more c.args.self.now.places c.args.self.now.count c.loop-i.i c.index-self-i.result c.loop-i-test.true n in
-    sym (known_here _ _ c.args.path.now _ more (sym c.if-has-path.ensures)) ∙ c.loop-i.invariant
+    sym (known_here _ _ c.args.path.now _ more (sym c.if-has_path.ensures)) ∙ c.loop-i.invariant
 
 pub loop-i-preserved : goal.loop-i-preserved
 loop-i-preserved c =
     let n : c.args.self.now.count ≤ length c.args.self.now.places = omega arith in
     let more = shelved_more c.args.self.now.places c.args.self.now.count c.loop-i.i c.index-self-i.result c.loop-i-test.true n in
-    sym (known_next _ _ c.args.path.now _ more (sym c.if-has-path.ensures)) ∙ c.loop-i.invariant
+    sym (known_next _ _ c.args.path.now _ more (sym c.if-has_path.ensures)) ∙ c.loop-i.invariant
 
 pub returns : goal.returns
 returns c =

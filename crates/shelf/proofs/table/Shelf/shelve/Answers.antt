@@ -17,10 +17,10 @@ returns-then-not-takes c =
     let h : k ≤ length ps = omega arith in
     let is = refused_is (shelved_in ps k) c.args.path.now c.args.number c.args.piece (sym c.if-not-takes.ensures) in
     record {
-      shelved-or-told-how-many = ap (λ n. Err (NotShelved n)) (sym (length_shelved ps k h)) ∙ sym (ap (λ s. s.answer) is);
-      adds-one-entry-behind = sym (ap (λ s. s.list) is);
-      a-shelved-entry-stands = λ e. (let z : ◌≡◌ {A = ℕ} 0 1 = cc e in absurd (omega arith));
-      other-paths-answer-as-before = λ other ne. refl;
+      shelved_or_told_how_many = ap (λ n. Err (NotShelved n)) (sym (length_shelved ps k h)) ∙ sym (ap (λ s. s.answer) is);
+      adds_one_entry_behind = sym (ap (λ s. s.list) is);
+      a_shelved_entry_stands = λ e. (let z : ◌≡◌ {A = ℕ} 0 1 = cc e in absurd (omega arith));
+      other_paths_answer_as_before = λ other ne. refl;
     }
 
 pub listed : goal.listed
@@ -54,8 +54,8 @@ returns c =
     let new = c.filled-place.result in
     let is = taken_is (shelved_in s.places s.count) c.args.path.now c.args.number c.args.piece t in
     record {
-      shelved-or-told-how-many = sym (ap (λ d. d.answer) is);
-      adds-one-entry-behind = table_grown s.places s.count s.sized s.filled_within c.args.path.now c.args.number c.args.piece t new c.filled-place.ensures ∙ sym (ap (λ d. d.list) is);
-      a-shelved-entry-stands = λ e. stands_now s.places s.count s.sized s.filled_within c.args.path.now c.args.number c.args.piece t new c.filled-place.ensures;
-      other-paths-answer-as-before = others_as_before s.places s.count s.sized s.filled_within c.args.path.now c.args.number c.args.piece t new c.filled-place.ensures;
+      shelved_or_told_how_many = sym (ap (λ d. d.answer) is);
+      adds_one_entry_behind = table_grown s.places s.count s.sized s.filled_within c.args.path.now c.args.number c.args.piece t new c.filled-place.ensures ∙ sym (ap (λ d. d.list) is);
+      a_shelved_entry_stands = λ e. stands_now s.places s.count s.sized s.filled_within c.args.path.now c.args.number c.args.piece t new c.filled-place.ensures;
+      other_paths_answer_as_before = others_as_before s.places s.count s.sized s.filled_within c.args.path.now c.args.number c.args.piece t new c.filled-place.ensures;
     }

@@ -12,10 +12,10 @@ invariant-of-self c =
     let n = c.args.number in
     let ps = c.args.self.now.places in
     let k = c.args.self.now.count in
-    let front = c.withdraw-in.new.places in
+    let front = c.withdraw_in.new.places in
     let w : k ≤ length ps = omega arith in
-    let long = length_withdrawn n ps front k (k - 0) (sub-zero k) w c.withdraw-in.auto.places c.withdraw-in.ensures.list in
-    let list = shelved_withdrawn n ps front k (k - 0) (sub-zero k) w c.withdraw-in.auto.places c.withdraw-in.ensures.list in
+    let long = length_withdrawn n ps front k (k - 0) (sub-zero k) w c.withdraw_in.auto.places c.withdraw_in.ensures.list in
+    let list = shelved_withdrawn n ps front k (k - 0) (sub-zero k) w c.withdraw_in.auto.places c.withdraw_in.ensures.list in
     (long ∙ c.args.self.now.sized, (c.args.self.now.filled_within, (ap numbered list ∙ numbered_withdrawn n (shelved_in ps k) ∙ c.args.self.now.numbers_not_0, (ap distinct list ∙ distinct_withdrawn n (shelved_in ps k) ∙ c.args.self.now.paths_distinct, tt))))
 
 pub returns : goal.returns
@@ -23,10 +23,10 @@ returns c =
     let n = c.args.number in
     let ps = c.args.self.now.places in
     let k = c.args.self.now.count in
-    let front = c.withdraw-in.new.places in
+    let front = c.withdraw_in.new.places in
     let w : k ≤ length ps = omega arith in
     record {
-      withdraw-counts-what-stood = c.withdraw-in.ensures.count ∙ ap (λ m. standing n (map entry_of (take m ps))) (sub-zero k);
-      withdraws-the-entries = shelved_withdrawn n ps front k (k - 0) (sub-zero k) w c.withdraw-in.auto.places c.withdraw-in.ensures.list;
-      touches-only-its-number = withdrawing_touches_only_its_number;
+      withdraw_counts_what_stood = c.withdraw_in.ensures.count ∙ ap (λ m. standing n (map entry_of (take m ps))) (sub-zero k);
+      withdraws_the_entries = shelved_withdrawn n ps front k (k - 0) (sub-zero k) w c.withdraw_in.auto.places c.withdraw_in.ensures.list;
+      touches_only_its_number = withdrawing_touches_only_its_number;
     }
