@@ -1,4 +1,6 @@
 //! The file `book.txt` of a book: its main score, the scores of its catalogue, and which of them are withdrawn.
+#![tactic(auto)]
+
 pub mod contents;
 mod entries;
 pub mod faults;

@@ -1,4 +1,6 @@
 //! The budget enforcer: counts what is observed against limits, and remembers the first breach.
+#![tactic(auto)]
+
 mod anchors;
 pub mod breach;
 mod containers;

@@ -17,6 +17,8 @@
 //!   from 0, the breach, and how many later inputs got the same breach.
 //! - BREACHED: the breach of the report, or `none`. A breach is its name and its counts.
 //! - COUNTS: the report's events, aliases, anchors, documents, nodes, deepest depth, scalar bytes and merge keys.
+#![tactic(auto)]
+
 mod answers;
 mod inputs;
 mod runs;

@@ -1,4 +1,6 @@
 //! The catalogue: which scores can be included, and which of them are withdrawn.
+#![tactic(auto)]
+
 ghost use Rattle.std.specs.Prelude.{◌≡◌, List};
 ghost use Rattle.catalogue.specs.Entries.{Entry, Lawful, look_up, standing, withdrawn};
 ghost use Rattle.catalogue.specs.Laws.{LookUpTellsTheList, WithdrawingTouchesOnlyItsNumber};

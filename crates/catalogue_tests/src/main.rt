@@ -8,6 +8,8 @@
 //! - `resolve PATH`, `withdraw NUMBER`.
 //!
 //! A PATH is an item. Empty lines, and lines that start with `#`, are copied. A line that cannot be read gives `bad line`.
+#![tactic(auto)]
+
 mod calls;
 mod items;
 

@@ -1,4 +1,6 @@
 //! Scores as lists: events, marks and pieces of a stock, and what makes a piece sound.
+#![tactic(auto)]
+
 pub mod kinds;
 pub mod marks;
 mod nesting;

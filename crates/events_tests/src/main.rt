@@ -13,6 +13,8 @@
 //!   kinds of the piece's events, `marks` for the runs of its marks.
 //!
 //! An answer is `sound` or `rule` and a number, then `NUMBER=FIRST-LAST` for each node with a number, then what was asked.
+#![tactic(auto)]
+
 mod answers;
 mod notation;
 

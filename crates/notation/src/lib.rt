@@ -8,6 +8,8 @@
 //! return, a line feed and a backspace, and every other byte for itself; a backslash before anything else is an error.
 //!
 //! Lines end in a line feed, which the last may lack. Line feeds at the end of a text are passed over; any other empty line is an error.
+#![tactic(auto)]
+
 pub mod builder;
 mod escapes;
 pub mod fault;

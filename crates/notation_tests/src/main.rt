@@ -1,5 +1,7 @@
 //! Scores in event notation from the input: each line as it was read and as it is printed again, then the piece that the score became.
 //! A line `====` ends a score.
+#![tactic(auto)]
+
 ghost use Rattle.std.specs.Prelude.{◌≤◌, length};
 
 use anyhow::anyhow;

@@ -1,4 +1,6 @@
 //! The program `partbook`: inspects the book of a choir before it is set.
+#![tactic(auto)]
+
 mod command;
 mod inspect;
 mod load;

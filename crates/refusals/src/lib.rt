@@ -1,4 +1,5 @@
 //! What every refusal tells besides its cause.
+#![tactic(auto)]
 
 /// The part of the setter that refuses.
 #[derive(Clone, Copy)]

@@ -1,4 +1,6 @@
 //! Limits and policies as they are written in the call of a program: `NAME=NUMBER` by the limit's name; `max_reader_input_bytes=-` is no limit.
+#![tactic(auto)]
+
 use anyhow::anyhow;
 use budget::limits::{AliasLimits, Budget};
 use budget::policy::{EnforcingPolicy, MergeKeyPolicy};

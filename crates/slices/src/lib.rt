@@ -1,7 +1,9 @@
 //! Parts of a slice of bytes. Each call takes any arguments: a part past the end is empty, and a byte past the end reads as 0.
+#![tactic(auto)]
+
 ghost use Rattle.std.specs.Prelude.{◌≡◌, ◌≤◌, length, take, drop, slice_index};
 ghost use Rattle.std.specs.Str.{bytes_eq};
-ghost use Rattle.slices.specs.Fields.{is_empty, place_of, lacks as lacking, marked as markedBy};
+ghost use Rattle.slices.specs.Fields.{is_empty, place_of, lacks as lacking, marked as marked_by};
 
 /// Whether there are no bytes.
 pub fn empty(s: &[u8]) -> bool
@@ -59,7 +61,7 @@ pub fn lacks(s: &[u8], b: u8) -> bool
 
 /// Whether a space and then the byte `mark` stand at the front.
 pub fn marked(s: &[u8], mark: u8) -> bool
-    ensures value { result ≡ markedBy mark s.now }
+    ensures value { result ≡ marked_by mark s.now }
 {
     byte_at(s, 0) == b' ' && byte_at(s, 1) == mark
 }

@@ -3,6 +3,8 @@
 //! A tag is an include tag if it is one of the include words alone, or one followed by `#` and any bytes.
 //! Under a word alone the value holds path and anchor, before and after its first `#`.
 //! Under a word with `#` the whole value is the path, and what follows the tag's first `#` is the anchor.
+#![tactic(auto)]
+
 ghost use Rattle.std.specs.Prelude.{◌≡◌, map, None, Ok, Decides, ◌≢◌};
 ghost use Rattle.events.specs.declared.kinds.EventKind.TheVariants.{Scalar};
 ghost use Rattle.tags.specs.Hashes.{hashed, split_at_hash, told_parts};

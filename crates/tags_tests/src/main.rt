@@ -2,6 +2,8 @@
 //!
 //! A third column is the number of the event's kind; without it the event is a scalar.
 //! A line of the output is `none`, `refused` and the number, or `spec`, the path and the anchor, with tabs between.
+#![tactic(auto)]
+
 use events::kinds::EventKind;
 use std::alloc::{AllocError, Global};
 use std::io;

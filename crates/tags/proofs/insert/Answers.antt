@@ -15,12 +15,12 @@ returns-in-Scalar c =
     let P : Answer → Type 0 = λ r. Decides (is_insert include_words kind tag) (r ≡ Ok None → ⊥) in
     record { is_the_insert = e; answers_exactly_inserts = subst P (sym e) (answered_decides include_words include_words_hashless kind tag value) }
 
-pub returns-in-default : goal.returns-in-default
-returns-in-default c =
+pub returns-in_default : goal.returns-in_default
+returns-in_default c =
     let kind = c.args.kind in
     let tag = c.args.tag.now in
     let value = c.args.value.now in
     let e : ◌≡◌ {A = Answer} (Ok None) (insert_of include_words kind tag value) =
-    sym (ap (λ b. cond b (spec_of include_words tag value) (Ok None)) (not_scalar kind c.in-default.not-Scalar)) in
+    sym (ap (λ b. cond b (spec_of include_words tag value) (Ok None)) (not_scalar kind c.in_default.not-Scalar)) in
     let P : Answer → Type 0 = λ r. Decides (is_insert include_words kind tag) (r ≡ Ok None → ⊥) in
     record { is_the_insert = e; answers_exactly_inserts = subst P (sym e) (answered_decides include_words include_words_hashless kind tag value) }

@@ -13,9 +13,9 @@ returns-in-Scalar c =
     c.is_include_tag.ensures.includes ∙ sym (ap (λ k. is_scalar k && is_include_form (form_of include_words tag)) c.in-Scalar.is) in
     record { is_the_test = e; scalar_with_an_include_tag = Decides-at _ _ e (insert_decides include_words include_words_hashless c.args.kind tag) }
 
-pub returns-in-default : goal.returns-in-default
-returns-in-default c =
+pub returns-in_default : goal.returns-in_default
+returns-in_default c =
     let tag = c.args.tag.now in
     let e : false ≡ is_insert include_words c.args.kind tag =
-    sym (ap (λ b. b && is_include_form (form_of include_words tag)) (not_scalar c.args.kind c.in-default.not-Scalar)) in
+    sym (ap (λ b. b && is_include_form (form_of include_words tag)) (not_scalar c.args.kind c.in_default.not-Scalar)) in
     record { is_the_test = e; scalar_with_an_include_tag = Decides-at _ _ e (insert_decides include_words include_words_hashless c.args.kind tag) }

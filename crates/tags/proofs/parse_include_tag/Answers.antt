@@ -12,13 +12,13 @@ law = form_law include_words include_words_hashless
 pub returns-then-is_include_word : goal.returns-then-is_include_word
 returns-then-is_include_word c =
     let tag = c.args.tag.now in
-    let e : plain ≡ form_of include_words tag = reads_none include_words include_words_hashless tag true c.in-default.ensures.split c.if-is_include_word.ensures.word in
+    let e : plain ≡ form_of include_words tag = reads_none include_words include_words_hashless tag true c.in_default.ensures.split c.if-is_include_word.ensures.word in
     record { is_the_form = e; keeps_the_laws = law tag plain e }
 
 pub returns-else-is_include_word : goal.returns-else-is_include_word
 returns-else-is_include_word c =
     let tag = c.args.tag.now in
-    let e : not_include ≡ form_of include_words tag = reads_none include_words include_words_hashless tag false c.in-default.ensures.split c.if-is_include_word.ensures.word in
+    let e : not_include ≡ form_of include_words tag = reads_none include_words include_words_hashless tag false c.in_default.ensures.split c.if-is_include_word.ensures.word in
     record { is_the_form = e; keeps_the_laws = law tag not_include e }
 
 pub returns-then-not-is_include_word : goal.returns-then-not-is_include_word

@@ -28,7 +28,7 @@ loop-i-preserved c =
     let behind = c.behind_entry-rest.ensures.is_behind_the_entry in
     let pushed : walk (i + 1) entries ≡ before ++ entry_of rest ∷ [] = walk_push i entries ∙ ap (λ r. before ++ entry_of r ∷ []) (sym came) in (
       (λ j. wrong_from left (pushed j) (p + (21 + c.path_len.ensures.is_the_first_byte j)) (behind j))
-          ∙ ap (λ o. or_else o (others (before ++ entry_of rest ∷ []))) c.in-default.ensures.is_the_first_wrong_field
+          ∙ ap (λ o. or_else o (others (before ++ entry_of rest ∷ []))) c.in_default.ensures.is_the_first_wrong_field
           ∙ sym (wrong_from_more c.args.count i before p rest (omega arith))
           ∙ c.loop-i.invariant.0,
       behind ∙ ap behind_entry came ∙ sym (behind_push i entries),

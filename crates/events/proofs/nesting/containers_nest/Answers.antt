@@ -6,10 +6,10 @@ use Rattle.events.proofs.Loops.{keeps_on, keeps_fails, keeps_ends}
 use Rattle.events.proofs.Stacking.{none_open}
 use Rattle.events.proofs.nesting.containers_nest.Goals as goal
 
-pub returns-in-default : goal.returns-in-default
-returns-in-default c =
+pub returns-in_default : goal.returns-in_default
+returns-in_default c =
     let held = stacked c.loop-event.containers.table c.loop-event.containers.count in
-    sym (keeps_fails turned_at none c.args.events.now held held c.loop-event.event-index no_event c.loop-event-test.true (ap (λ k. turned_by k held) (sym c.in-default.ensures.is_the_kind_of_the_number))) ∙ c.loop-event.invariant.0
+    sym (keeps_fails turned_at none c.args.events.now held held c.loop-event.event-index no_event c.loop-event-test.true (ap (λ k. turned_by k held) (sym c.in_default.ensures.is_the_kind_of_the_number))) ∙ c.loop-event.invariant.0
 
 pub returns-then-not-turn : goal.returns-then-not-turn
 returns-then-not-turn c =

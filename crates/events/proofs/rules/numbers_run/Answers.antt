@@ -4,9 +4,9 @@ use Rattle.events.specs.Scores.{no_event}
 use Rattle.events.proofs.Loops.{keeps_on, keeps_fails, keeps_ends}
 use Rattle.events.proofs.rules.numbers_run.Goals as goal
 
-pub returns-in-default : goal.returns-in-default
-returns-in-default c =
-    sym (keeps_fails numbered_at (λ k. eqb k c.args.count) c.args.events.now c.loop-event.highest c.loop-event.highest c.loop-event.event-index no_event c.loop-event-test.true (sym c.in-default.ensures)) ∙ c.loop-event.invariant
+pub returns-in_default : goal.returns-in_default
+returns-in_default c =
+    sym (keeps_fails numbered_at (λ k. eqb k c.args.count) c.args.events.now c.loop-event.highest c.loop-event.highest c.loop-event.event-index no_event c.loop-event-test.true (sym c.in_default.ensures)) ∙ c.loop-event.invariant
 
 pub loop-event-preserved : goal.loop-event-preserved
 loop-event-preserved c =

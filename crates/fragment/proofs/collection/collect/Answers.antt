@@ -25,11 +25,11 @@ collect_events-requires c =
 promised : (b : Budget) (l : Lists) (p : Piece) (name : List ℕ) (r : Result ℕ FragmentError) → r ≡ collected b l p name → record { tells_the_first_cause_or_the_target : r ≡ collected b l p name; goes_through_exactly_within_the_budget_with_a_target : AcceptedExactlyIf b l p name r; refused_exactly_by_the_first_cause : RefusedExactlyIf b l p name r }
 promised b l p name r q = record { tells_the_first_cause_or_the_target = q; goes_through_exactly_within_the_budget_with_a_target = accepted_exactly_if b l p name r q; refused_exactly_by_the_first_cause = refused_exactly_if b l p name r q }
 
-pub returns-in-err-collect_marks : goal.returns-in-err-collect_marks
-returns-in-err-collect_marks c = promised c.args.limits.budget (lists_in c.args.sound) (piece_in c.args.sound) c.args.name.now _ (search rules)
+pub returns-in_err-collect_marks : goal.returns-in_err-collect_marks
+returns-in_err-collect_marks c = promised c.args.limits.budget (lists_in c.args.sound) (piece_in c.args.sound) c.args.name.now _ (search rules)
 
-pub returns-in-err-collect_events : goal.returns-in-err-collect_events
-returns-in-err-collect_events c = promised c.args.limits.budget (lists_in c.args.sound) (piece_in c.args.sound) c.args.name.now _ (search rules)
+pub returns-in_err-collect_events : goal.returns-in_err-collect_events
+returns-in_err-collect_events c = promised c.args.limits.budget (lists_in c.args.sound) (piece_in c.args.sound) c.args.name.now _ (search rules)
 
 pub returns : goal.returns
 returns c = promised c.args.limits.budget (lists_in c.args.sound) (piece_in c.args.sound) c.args.name.now _ (search rules)

@@ -4,15 +4,15 @@ use Rattle.fragment.specs.Collection.{unless}
 use Rattle.fragment.proofs.Collecting.{goes_on, stops, ends, unless_ok, unless_err}
 use Rattle.fragment.proofs.collection.collect_events.Goals as goal
 
-pub returns-in-err-take : goal.returns-in-err-take
-returns-in-err-take c =
+pub returns-in_err-take : goal.returns-in_err-take
+returns-in_err-take c =
     let p = err_from_is_err_and c.from-residual.result c.from-residual.ensures.1 in
-    let cause = unless_err _ c.in-err-take.field-0.0 c.in-err-take.ensures.tells_the_first_cause in
-    rw (p.1, p.2) (sym (ap unless (stops c.args.budget.now c.args.events.now c.loop-event.event-index c.loop-event.counted c.loop-event-test.true c.loop-event.invariant c.in-err-take.field-0.0 cause)))
+    let cause = unless_err _ c.in_err-take.field-0.0 c.in_err-take.ensures.tells_the_first_cause in
+    rw (p.1, p.2) (sym (ap unless (stops c.args.budget.now c.args.events.now c.loop-event.event-index c.loop-event.counted c.loop-event-test.true c.loop-event.invariant c.in_err-take.field-0.0 cause)))
 
 pub loop-event-preserved : goal.loop-event-preserved
 loop-event-preserved c =
-    let t = c.in-ok-take.ensures in
+    let t = c.in_ok-take.ensures in
     rw t.counts_the_event (goes_on c.args.budget.now c.args.events.now c.loop-event.event-index c.loop-event.counted c.loop-event-test.true c.loop-event.invariant (unless_ok _ t.tells_the_first_cause))
 
 pub returns : goal.returns

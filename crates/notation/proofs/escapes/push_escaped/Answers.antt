@@ -9,7 +9,7 @@ loop-b-preserved c =
     let i = c.loop-b.b-index in
     let bs = vec_items c.loop-b.out in
     let rest = escaped (drop (i + 1) v) in
-    ap (λ l. l ++ rest) c.in-ok-push_written.ensures.value
+    ap (λ l. l ++ rest) c.in_ok-push_written.ensures.value
     ∙ append_assoc bs (written (get_or v i 0)) rest
     ∙ ap (λ l. bs ++ escaped l) (sym (drop_more v i 0 c.loop-b-test.true))
     ∙ c.loop-b.invariant

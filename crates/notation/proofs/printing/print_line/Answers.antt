@@ -15,7 +15,7 @@ pub returns : goal.returns
 returns c =
     let l = said c.args.line.now in
     let printed : vec_items c.push_value.new.out ≡ shown l =
-    pushed_four _ _ _ _ _ _ _ _ _ c.new-out.ensures.items c.in-ok-extend_from_slice.ensures.items c.in-ok-push_name.ensures.value c.in-ok-push_tag.ensures.value c.in-ok-push_value.ensures.value
+    pushed_four _ _ _ _ _ _ _ _ _ c.new-out.ensures.items c.in_ok-extend_from_slice.ensures.items c.in_ok-push_name.ensures.value c.in_ok-push_tag.ensures.value c.in_ok-push_value.ensures.value
     ∙ parts_same _ _ _ _ _ _ _ _ _ _ _ _ _ c.opener_of.ensures.value (c.name_mark.ensures.value ∙ ap name_mark c.shape_of-shape.ensures.value) c.as_slice.ensures.value c.as_slice-2.ensures.value c.shape_of-shape.ensures.value c.as_slice-3.ensures.value in
     let fair : printable l ≡ true = sym c.if-not-is_printable.ensures.reads_back_if_printed in
     record { is_the_printed_line = (fair, printed); reads_back = ap line_of printed ∙ reads_back l fair }

@@ -2,6 +2,6 @@ use Rattle.std.proofs.Common.{sym}
 use Rattle.notation.proofs.Showing.{pushed_name}
 use Rattle.notation.proofs.printing.push_name.Goals as goal
 
-pub returns-in-ok-extend_from_slice-2 : goal.returns-in-ok-extend_from_slice-2
-returns-in-ok-extend_from_slice-2 c =
-    record { value = pushed_name _ _ _ _ _ (sym c.if-not-empty.ensures.value) c.in-ok-extend_from_slice.ensures.items c.in-ok-extend_from_slice-2.ensures.items }
+pub returns-in_ok-extend_from_slice-2 : goal.returns-in_ok-extend_from_slice-2
+returns-in_ok-extend_from_slice-2 c =
+    record { value = pushed_name _ _ _ _ _ (sym c.if-not-empty.ensures.value) c.in_ok-extend_from_slice.ensures.items c.in_ok-extend_from_slice-2.ensures.items }

@@ -19,10 +19,10 @@ exactly bs small was r is p q =
     let said = accepted_exactly bs (All-from_get_or (λ b. b < 256) bs 0 (λ i _. (small i).fits)) was in
     subst (λ x. AcceptedExactly bs r x) (sym q) (subst (λ x. AcceptedExactly bs x (bound bs was).entries) (sym p) said)
 
-pub invariant-of-self : goal.invariant-of-self
-invariant-of-self c =
+pub invariant_of-self : goal.invariant_of-self
+invariant_of-self c =
     let bs = c.args.bytes.now in
-    let none : wrong bs ≡ None = sym c.in-default.ensures.is_the_first_wrong_field in
+    let none : wrong bs ≡ None = sym c.in_default.ensures.is_the_first_wrong_field in
     (ap length c.new-flags.ensures.none_is_set ∙ length-replicate 256 false, ((wrong_none bs none).0.few, (ap fine none, tt)))
 
 pub returns-in-Some : goal.returns-in-Some
@@ -36,19 +36,19 @@ returns-in-Some c =
       tells_the_first_wrong_field = tells;
       a_binder_means_its_bytes = means;
       refused_bytes_change_nothing = λ _. refl;
-      accepted_exactly_if_packed = exactly bs c.type-inv.bytes was _ _ tells means;
+      accepted_exactly_if_packed = exactly bs c.type_inv.bytes was _ _ tells means;
     }
 
 pub returns : goal.returns
 returns c =
     let bs = c.args.bytes.now in
     let was = entries_of c.args.self.now in
-    let none : wrong bs ≡ None = sym c.in-default.ensures.is_the_first_wrong_field in
+    let none : wrong bs ≡ None = sym c.in_default.ensures.is_the_first_wrong_field in
     let tells = sym (ap (λ o. (bound_by (parsed_by o (listed bs)) was).answer) none) in
     let means = ap (λ fs. flagged 0 fs (listed bs)) c.new-flags.ensures.none_is_set ∙ flagged_fresh 0 256 (count_of bs) (drop 7 bs) ∙ sym (ap (λ o. (bound_by (parsed_by o (listed bs)) was).entries) none) in
     record {
       tells_the_first_wrong_field = tells;
       a_binder_means_its_bytes = means;
       refused_bytes_change_nothing = λ h. absurd (false≢true h);
-      accepted_exactly_if_packed = exactly bs c.type-inv.bytes was _ _ tells means;
+      accepted_exactly_if_packed = exactly bs c.type_inv.bytes was _ _ tells means;
     }

@@ -27,8 +27,8 @@ returns-then-len-ge-MOST_SCORES c =
     let many = counted d _ c.as_slice.ensures.value c.as_slice.ensures.len in
     record { value = inr (score_too_many (said_score s) (said_draft d) new (omega (arith, many, c.len.ensures, c.if-len-ge-MOST_SCORES.true))) }
 
-pub invariant-of-self : goal.invariant-of-self
-invariant-of-self c =
+pub invariant_of-self : goal.invariant_of-self
+invariant_of-self c =
     let d = c.args.self.now in
     let s = c.args.score in
     let new = new_path d s _ _ c.as_slice.ensures.value c.as_slice-2.ensures.value c.if-has_path.ensures.some_path_is_equal in
@@ -41,4 +41,4 @@ returns c =
     let new = new_path d s _ _ c.as_slice.ensures.value c.as_slice-2.ensures.value c.if-has_path.ensures.some_path_is_equal in
     let many = counted d _ c.as_slice.ensures.value c.as_slice.ensures.len in
     let few : length (said_scores (vec_items d.scores)) < 256 = omega (arith, many, c.len.ensures, c.if-len-ge-MOST_SCORES.false) in
-    record { value = score_added (said_score s) (said_draft d) new few ∙ ap (λ l. Ok (record { main = option_map vec_items d.main; scores = l; withdrawn = vec_items d.withdrawn })) (sym (ap said_scores c.in-ok-push.ensures.items ∙ map_last said_score (vec_items d.scores) s)) }
+    record { value = score_added (said_score s) (said_draft d) new few ∙ ap (λ l. Ok (record { main = option_map vec_items d.main; scores = l; withdrawn = vec_items d.withdrawn })) (sym (ap said_scores c.in_ok-push.ensures.items ∙ map_last said_score (vec_items d.scores) s)) }

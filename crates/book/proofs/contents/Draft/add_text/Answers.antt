@@ -27,4 +27,4 @@ loop-rest-preserved c =
     let cut = c.next_line-cut.result in
     let some : 0 < length rest = let ne = eqb-false (length rest) 0 (sym c.loop-rest-test.ensures) in omega (arith, ne) in
     let lines : lines_of rest ≡ cut.piece.now ∷ lines_of cut.rest.now = lines_begin rest cut.piece.now cut.rest.now some c.next_line-cut.ensures.first c.next_line-cut.ensures.later in
-    (omega (arith, some, c.loop-rest.invariant.0, c.next_line-cut.ensures.shorter), sym (line_added (c.loop-rest.line + 1) cut.piece.now (lines_of cut.rest.now) (lines_of rest) (said_draft c.loop-rest.self) (said_draft c.add_line.new.self) lines c.in-default.ensures.value) ∙ c.loop-rest.invariant.1)
+    (omega (arith, some, c.loop-rest.invariant.0, c.next_line-cut.ensures.shorter), sym (line_added (c.loop-rest.line + 1) cut.piece.now (lines_of cut.rest.now) (lines_of rest) (said_draft c.loop-rest.self) (said_draft c.add_line.new.self) lines c.in_default.ensures.value) ∙ c.loop-rest.invariant.1)

@@ -22,20 +22,20 @@ returns-in-Some c =
     let e = unknown_of c.args.self _ _ _ c.as_slice.ensures.value c.as_slice-2.ensures.value c.in-Some.ensures.value in
     record { value = finished_at c.args.self (Some c.in-Some.line) e }
 
-pub invariant-of-result : goal.invariant-of-result
-invariant-of-result c =
+pub invariant_of-result : goal.invariant_of-result
+invariant_of-result c =
     let d = c.args.self in
-    let e = unknown_of d _ _ _ c.as_slice.ensures.value c.as_slice-2.ensures.value c.in-default.ensures.value in
+    let e = unknown_of d _ _ _ c.as_slice.ensures.value c.as_slice-2.ensures.value c.in_default.ensures.value in
     (d.at_most_256_scores, (d.paths_are_distinct, (all_known (said_scores (vec_items d.scores)) (vec_items d.withdrawn) e, tt)))
 
 pub returns-in-Some-main : goal.returns-in-Some-main
 returns-in-Some-main c =
     let d = c.args.self in
-    let e = unknown_of d _ _ _ c.as_slice.ensures.value c.as_slice-2.ensures.value c.in-default.ensures.value in
+    let e = unknown_of d _ _ _ c.as_slice.ensures.value c.as_slice-2.ensures.value c.in_default.ensures.value in
     record { value = finished_at d None e ∙ ap (λ m. finished_by None (option_map vec_items m) (said_draft d)) c.in-Some-main.is }
 
 pub returns-in-None : goal.returns-in-None
 returns-in-None c =
     let d = c.args.self in
-    let e = unknown_of d _ _ _ c.as_slice.ensures.value c.as_slice-2.ensures.value c.in-default.ensures.value in
+    let e = unknown_of d _ _ _ c.as_slice.ensures.value c.as_slice-2.ensures.value c.in_default.ensures.value in
     record { value = finished_at d None e ∙ ap (λ m. finished_by None (option_map vec_items m) (said_draft d)) c.in-None.is }

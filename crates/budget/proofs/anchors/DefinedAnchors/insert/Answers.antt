@@ -26,11 +26,11 @@ returns c =
       answer = sym (ap not e) ∙ sym (cond-false (eqb n 0) false (not (get_or bs n false)) z);
     }
 
-pub overflow-add-self : goal.overflow-add-self
-overflow-add-self c = let h = trues_le c.args.self.now.flags in let k : length c.args.self.now.flags ≤ 1024 = search rules in omega (arith, c.args.self.now.counted)
+pub overflow_add-self : goal.overflow_add-self
+overflow_add-self c = let h = trues_le c.args.self.now.flags in let k : length c.args.self.now.flags ≤ 1024 = search rules in omega (arith, c.args.self.now.counted)
 
-pub invariant-of-self : goal.invariant-of-self
-invariant-of-self c =
+pub invariant_of-self : goal.invariant_of-self
+invariant_of-self c =
     let bs = c.args.self.now.flags in
     let k : c.args.anchor.number < length bs = search rules in
     let e = trues_set bs c.args.anchor.number k c.if-self-place.false in

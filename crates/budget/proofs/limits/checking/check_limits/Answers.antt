@@ -3,8 +3,8 @@ use Rattle.budget.specs.Limits.{first_too_large, is_none, judgement}
 use Rattle.budget.proofs.Bounds.{bounds}
 use Rattle.budget.proofs.limits.checking.check_limits.Goals as goal
 
-pub invariant-of-result : goal.invariant-of-result
-invariant-of-result c =
+pub invariant_of-result : goal.invariant_of-result
+invariant_of-result c =
     let none : first_too_large c.args.budget c.args.alias_limits ≡ None = sym c.first_too_large.ensures ∙ c.in-None.is in
     (ap is_none none, ((bounds c.args.budget c.args.alias_limits (ap is_none none)).depth, tt))
 

@@ -14,14 +14,14 @@ has_room c =
     let l = ranges_length es 0 in
     omega (arith, c.loop-place.invariant.1, c.requires.room, c.loop-place.auto.ranges)
 
-pub offset-bounds-ranges-count : goal.offset-bounds-ranges-count
-offset-bounds-ranges-count c = let h = has_room c in omega arith
+pub offset_bounds-ranges-count : goal.offset_bounds-ranges-count
+offset_bounds-ranges-count c = let h = has_room c in omega arith
 
 pub bounds-ranges-count : goal.bounds-ranges-count
 bounds-ranges-count c = has_room c
 
-pub overflow-add-count : goal.overflow-add-count
-overflow-add-count c = let h = has_room c in omega arith
+pub overflow_add-count : goal.overflow_add-count
+overflow_add-count c = let h = has_room c in omega arith
 
 pub loop-place-preserved : goal.loop-place-preserved
 loop-place-preserved c =

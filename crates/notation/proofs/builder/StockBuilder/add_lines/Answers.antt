@@ -7,8 +7,8 @@ use Rattle.notation.proofs.Carrying.{reached_more}
 use Rattle.notation.proofs.Growing.{grown_same, grown_trans}
 use Rattle.notation.proofs.builder.StockBuilder.add_lines.Goals as goal
 
-pub overflow-cast-span-in-loop-start : goal.overflow-cast-span-in-loop-start
-overflow-cast-span-in-loop-start c =
+pub overflow_cast-span-in-loop-start : goal.overflow_cast-span-in-loop-start
+overflow_cast-span-in-loop-start c =
     let r = ap length c.behind-rest.ensures.value in
     let d = length-drop c.loop-start.start c.args.text.now in
     omega arith
@@ -53,7 +53,7 @@ loop-start-preserved c = (
   (let text = c.args.text.now in
       let i = c.loop-start.start in
       let rest = c.behind-rest.ensures.value in
-      reached_more c.args.first_mark text c.args.self.now i c.place_of.result _ _ _ c.loop-start.invariant.3 c.loop-start-test.true (c.place_of.ensures.value ∙ ap (place_of 10) rest) (c.front.ensures.value ∙ ap (take (i + c.place_of.result - i)) rest) c.in-default.ensures.step),
+      reached_more c.args.first_mark text c.args.self.now i c.place_of.result _ _ _ c.loop-start.invariant.3 c.loop-start-test.true (c.place_of.ensures.value ∙ ap (place_of 10) rest) (c.front.ensures.value ∙ ap (take (i + c.place_of.result - i)) rest) c.in_default.ensures.step),
   λ h.
       let text = c.args.text.now in
       let i = c.loop-start.start in

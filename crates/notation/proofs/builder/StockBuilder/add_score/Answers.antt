@@ -20,15 +20,15 @@ returns-in-Err c =
       refuses_a_text_that_is_too_long = λ h. absurd (omega (arith, h));
     }
 
-pub overflow-sub-marks : goal.overflow-sub-marks
-overflow-sub-marks c =
+pub overflow_sub-marks : goal.overflow_sub-marks
+overflow_sub-marks c =
     let h = grows_length c.add_lines.ensures.grown.marks in
     let p = c.args.self.now.marks.ok.0 in
     let q = c.add_lines.new.self.marks.ok.0 in
     omega (arith, c.len-marks.ensures, c.len.ensures)
 
-pub overflow-sub-events : goal.overflow-sub-events
-overflow-sub-events c =
+pub overflow_sub-events : goal.overflow_sub-events
+overflow_sub-events c =
     let h = grows_length c.add_lines.ensures.grown.events in
     let p = c.args.self.now.events.ok.0 in
     let q = c.add_lines.new.self.events.ok.0 in
@@ -53,7 +53,7 @@ returns c =
         events_end = omega (arith, c.len-2.ensures);
         events_bound = omega (arith, c.len-2.ensures, counted.events);
         text_len = refl;
-        lines = read_through _ _ c.args.text.now _ c.text_end.result a b c.len-marks.ensures c.front.ensures.value c.text_end.ensures.ended c.in-default.ensures.lines;
+        lines = read_through _ _ c.args.text.now _ c.text_end.result a b c.len-marks.ensures c.front.ensures.value c.text_end.ensures.ended c.in_default.ensures.lines;
       };
       refused_with_its_cause = tt;
       refuses_a_text_that_is_too_long = λ h. absurd (omega (arith, h));

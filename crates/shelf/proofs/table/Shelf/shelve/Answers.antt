@@ -31,8 +31,8 @@ listed c =
 pub bounds-self-self : goal.bounds-self-self
 bounds-self-self c = room_left c.args.self.now.places c.args.self.now.count c.args.self.now.sized c.args.self.now.filled_within c.args.path.now c.args.number c.args.piece (sym c.if-not-takes.ensures)
 
-pub invariant-of-self : goal.invariant-of-self
-invariant-of-self c =
+pub invariant_of-self : goal.invariant_of-self
+invariant_of-self c =
     let s = c.args.self.now in
     let t = sym c.if-not-takes.ensures in
     let new = c.filled-place.result in

@@ -7,8 +7,8 @@ use Rattle.catalogue.proofs.Withdrawing.{withdrawing_touches_only_its_number}
 use Rattle.shelf.proofs.Tables.{shelved_withdrawn, length_withdrawn}
 use Rattle.shelf.proofs.table.calls.ShelfCatalogue.withdraw.Goals as goal
 
-pub invariant-of-self : goal.invariant-of-self
-invariant-of-self c =
+pub invariant_of-self : goal.invariant_of-self
+invariant_of-self c =
     let n = c.args.number in
     let ps = c.args.self.now.places in
     let k = c.args.self.now.count in
