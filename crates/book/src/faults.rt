@@ -1,6 +1,6 @@
 //! What can be wrong with a `book.txt`.
 ghost use Rattle.std.specs.Prelude.{◌≡◌};
-ghost use Rattle.book.specs.declared.faults.BookFault.TheVariants.{OutOfMemory as noMemory};
+ghost use Rattle.book.specs.declared.faults.BookFault.TheVariants.{OutOfMemory as no_memory};
 
 use std::alloc::{AllocError, AllocFailed};
 use std::fmt;
@@ -28,7 +28,7 @@ pub struct BookError {
 }
 
 impl From<AllocError> for BookFault {
-    ghost from_gives = { λ _ r. r ≡ noMemory };
+    ghost from_gives = { λ _ r. r ≡ no_memory };
 
     fn from(_e: AllocError) -> BookFault {
         BookFault::OutOfMemory
@@ -36,7 +36,7 @@ impl From<AllocError> for BookFault {
 }
 
 impl<T: Drop> From<AllocFailed<T>> for BookFault {
-    ghost from_gives = { λ _ r. r ≡ noMemory };
+    ghost from_gives = { λ _ r. r ≡ no_memory };
 
     fn from(_e: AllocFailed<T>) -> BookFault {
         BookFault::OutOfMemory

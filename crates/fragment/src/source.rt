@@ -2,7 +2,7 @@
 ghost use Rattle.std.specs.Prelude.{◌≡◌, ℕ, ◌≤◌};
 ghost use Rattle.events.specs.Checked.{piece_in};
 ghost use Rattle.fragment.specs.Sources.{score_in, HasRange, Reads};
-ghost use Rattle.fragment.specs.Unfolding.{range as rangeNumbered};
+ghost use Rattle.fragment.specs.Unfolding.{range as range_numbered};
 ghost use Rattle.fragment.specs.View.{score_of};
 
 use budget::limits::{AliasLimits, Budget, CheckedLimits};
@@ -39,7 +39,7 @@ impl<'a> Source<'a> {
     pub(crate) fn range(&self, number: u32) -> NodeRange
         requires readable { Reads self.now }
         requires ranged { HasRange self.now number }
-        ensures { result ≡ rangeNumbered (score_in self.now) number }
+        ensures { result ≡ range_numbered (score_in self.now) number }
     {
         match self.nodes.range(number as usize) {
             Some(range) => range,

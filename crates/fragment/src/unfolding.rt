@@ -4,7 +4,7 @@ ghost use Rattle.budget.specs.Model.{Model};
 ghost use Rattle.budget.specs.View.{view};
 ghost use Rattle.events.specs.Checked.{piece_in};
 ghost use Rattle.events.specs.Rules.{is_alias};
-ghost use Rattle.events.specs.Scores.{kind as kindOfEvent};
+ghost use Rattle.events.specs.Scores.{kind as kind_of_event};
 ghost use Rattle.fragment.specs.declared.tally.Tally.{Tally as Tallied};
 ghost use Rattle.fragment.specs.Ended.{ended};
 ghost use Rattle.fragment.specs.Slate.{wiped};
@@ -12,7 +12,7 @@ ghost use Rattle.fragment.specs.Sources.{score_in, Reads};
 ghost use Rattle.fragment.specs.Unfolding.{alias_step, event_step, judge_depth, run, shut, try_closed, unfolded, Unfolded, Work};
 ghost use Rattle.fragment.specs.Unfolding.{refer as referred};
 ghost use Rattle.fragment.specs.View.{counting, score_of, work};
-ghost use Rattle.fragment.specs.View.{written as writtenOn};
+ghost use Rattle.fragment.specs.View.{written as written_on};
 
 use crate::answers::{Charges, FragmentError, Passage};
 use crate::slate::{SlateGuard, wipe};
@@ -27,7 +27,7 @@ use events::sound::SoundPiece;
 
 /// Whether an event is an alias.
 fn is_alias(event: Event) -> bool
-    ensures { result ≡ is_alias (kindOfEvent event) }
+    ensures { result ≡ is_alias (kind_of_event event) }
 {
     match EventKind::from_number(event.kind) {
         Some(EventKind::Alias) => true,
@@ -151,7 +151,7 @@ pub(crate) fn unfold_target(
 ) -> Result<Passage, FragmentError>
     requires target { (1 ≤ target) × (target ≤ (piece_in sound).marks.len) }
     requires slate { 256 ≤ length slate.old }
-    ensures unfolds_the_target { ◌≡◌ {A = Unfolded} (record { answer = result; tape = writtenOn tape.new; charges = charges.new; enforcer = view enforcer.new }) (unfolded (score_of sound.entry limits.now) target (writtenOn tape.old) charges.old (view enforcer.old)) }
+    ensures unfolds_the_target { ◌≡◌ {A = Unfolded} (record { answer = result; tape = written_on tape.new; charges = charges.new; enforcer = view enforcer.new }) (unfolded (score_of sound.entry limits.now) target (written_on tape.old) charges.old (view enforcer.old)) }
     ensures wipes_the_slate { slate.new ≡ wiped slate.old }
 {
     let source = Source::new(sound, limits);

@@ -3,7 +3,7 @@ use Rattle.std.proofs.Common.{◌≡◌, ℕ, suc, ◌+◌, ◌-◌, ◌<◌, �
 use Rattle.std.proofs.lemmas.Result.{err_from_is_err_and}
 use Rattle.std.proofs.lemmas.List.{append_assoc, take-append-drop, take-take, drop-take, take_rest}
 use Rattle.notation.specs.declared.line.LineError.{LineError}
-use Rattle.notation.specs.declared.line.LineError.TheVariants.{LineBreak, UnknownOpener, EmptyName, UnclosedTag, BadProperty, MissingValue, BadStyle, BadEscape, TrailingText, OutOfMemory as lineMemory}
+use Rattle.notation.specs.declared.line.LineError.TheVariants.{LineBreak, UnknownOpener, EmptyName, UnclosedTag, BadProperty, MissingValue, BadStyle, BadEscape, TrailingText, OutOfMemory as line_memory}
 use Rattle.notation.specs.declared.fault.TextFault.{TextFault}
 use Rattle.notation.specs.declared.fault.TextFault.TheVariants.{Line, UnknownAnchor, TooManyBytes, TooManyMarks, TooManyEvents, TextTooLong, OutOfMemory}
 use Rattle.slices.specs.Fields.{place_of}
@@ -45,9 +45,9 @@ module _ (firstMark firstEvent : ℕ) (line : List ℕ) (b : StockBuilder) where
   unread BadStyle h = h
   unread BadEscape h = h
   unread TrailingText h = h
-  unread lineMemory h = tt
+  unread line_memory h = tt
 
-  pub unread_cause : (e : LineError) → (e ≡ lineMemory) ⊎ (line_of line ≡ Err e) → LineCause firstMark firstEvent line b (fault_of e)
+  pub unread_cause : (e : LineError) → (e ≡ line_memory) ⊎ (line_of line ≡ Err e) → LineCause firstMark firstEvent line b (fault_of e)
   unread_cause e (inl h) = subst (λ d. LineCause firstMark firstEvent line b (fault_of d)) (sym h) tt
   unread_cause e (inr h) = unread e h
 

@@ -6,7 +6,7 @@ use Rattle.notation.specs.Lines.{Said, shape_of, is_name, line_of}
 use Rattle.notation.specs.Scores.{Reached, Ended, added}
 use Rattle.notation.specs.declared.builder.StockBuilder.{StockBuilder}
 use Rattle.notation.specs.declared.line.LineError.{LineError}
-use Rattle.notation.specs.declared.line.LineError.TheVariants.{LineBreak, UnknownOpener, EmptyName, UnclosedTag, BadProperty, MissingValue, BadStyle, BadEscape, TrailingText, OutOfMemory as lineMemory}
+use Rattle.notation.specs.declared.line.LineError.TheVariants.{LineBreak, UnknownOpener, EmptyName, UnclosedTag, BadProperty, MissingValue, BadStyle, BadEscape, TrailingText, OutOfMemory as line_memory}
 use Rattle.notation.specs.declared.fault.TextFault.{TextFault}
 use Rattle.notation.specs.declared.fault.TextFault.TheVariants.{Line, UnknownAnchor, TooManyBytes, TooManyMarks, TooManyEvents, TextTooLong, OutOfMemory}
 use Rattle.notation.specs.declared.fault.TextError.{TextError}
@@ -27,7 +27,7 @@ fault_of MissingValue = Line MissingValue
 fault_of BadStyle = Line BadStyle
 fault_of BadEscape = Line BadEscape
 fault_of TrailingText = Line TrailingText
-fault_of lineMemory = OutOfMemory
+fault_of line_memory = OutOfMemory
 
 -- a cause for each fault that a line can have; a want of memory needs none, and no line has the fault of a text that is too long
 abbrev pub Caused : (LineError → Type 0) → Type 0 → Type 0 → Type 0 → Type 0 → TextFault → Type 0

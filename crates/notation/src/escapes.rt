@@ -2,7 +2,7 @@
 ghost use Rattle.std.specs.Prelude.{◌≡◌, true, false, ◌⊎◌, ◌++◌, Some, None, MatchResult};
 ghost use Rattle.notation.specs.Escapes.{meant, letter, written, escaped, unescaped};
 ghost use Rattle.notation.specs.declared.line.LineError.TheVariants.{BadEscape, OutOfMemory};
-ghost use Rattle.notation.specs.declared.line.PrintError.TheVariants.{OutOfMemory as printMemory};
+ghost use Rattle.notation.specs.declared.line.PrintError.TheVariants.{OutOfMemory as print_memory};
 
 use crate::line::{LineError, PrintError};
 use std::alloc::Global;
@@ -62,7 +62,7 @@ pub(crate) fn unescape(heap: Global, text: &[u8]) -> Result<Vec<u8>, LineError>
 
 /// Appends a byte as it is written in a value.
 fn push_written(out: &mut Vec<u8>, byte: u8) -> Result<(), PrintError>
-    ensures value { MatchResult result (λ _. out.new.items ≡ out.old.items ++ written byte) (λ e. e ≡ printMemory) }
+    ensures value { MatchResult result (λ _. out.new.items ≡ out.old.items ++ written byte) (λ e. e ≡ print_memory) }
 {
     match letter_of(byte) {
         Some(letter) => out.extend_from_slice(&[b'\\', letter])?,
@@ -73,7 +73,7 @@ fn push_written(out: &mut Vec<u8>, byte: u8) -> Result<(), PrintError>
 
 /// Appends a value as it is written.
 pub(crate) fn push_escaped(out: &mut Vec<u8>, value: &[u8]) -> Result<(), PrintError>
-    ensures value { MatchResult result (λ _. out.new.items ≡ out.old.items ++ escaped value.now) (λ e. e ≡ printMemory) }
+    ensures value { MatchResult result (λ _. out.new.items ≡ out.old.items ++ escaped value.now) (λ e. e ≡ print_memory) }
 {
     for b in value {
         push_written(out, *b)?;

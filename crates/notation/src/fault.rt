@@ -1,7 +1,7 @@
 //! What can be wrong with the text of a score.
 ghost use Rattle.std.specs.Prelude.{◌≡◌};
 ghost use Rattle.notation.specs.Causes.{fault_of};
-ghost use Rattle.notation.specs.declared.fault.TextFault.TheVariants.{OutOfMemory as textMemory};
+ghost use Rattle.notation.specs.declared.fault.TextFault.TheVariants.{OutOfMemory as text_memory};
 
 use crate::line::LineError;
 use std::alloc::{AllocError, AllocFailed};
@@ -45,7 +45,7 @@ impl From<LineError> for TextFault {
 }
 
 impl From<AllocError> for TextFault {
-    ghost from_gives = { λ _ r. r ≡ textMemory };
+    ghost from_gives = { λ _ r. r ≡ text_memory };
 
     fn from(_e: AllocError) -> TextFault {
         TextFault::OutOfMemory
@@ -53,7 +53,7 @@ impl From<AllocError> for TextFault {
 }
 
 impl<T: Drop> From<AllocFailed<T>> for TextFault {
-    ghost from_gives = { λ _ r. r ≡ textMemory };
+    ghost from_gives = { λ _ r. r ≡ text_memory };
 
     fn from(_e: AllocFailed<T>) -> TextFault {
         TextFault::OutOfMemory

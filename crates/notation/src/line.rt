@@ -1,7 +1,7 @@
 //! A line of event notation, taken apart, and what can be wrong with one.
 ghost use Rattle.std.specs.Prelude.{◌≡◌};
-ghost use Rattle.notation.specs.declared.line.LineError.TheVariants.{OutOfMemory as lineMemory};
-ghost use Rattle.notation.specs.declared.line.PrintError.TheVariants.{OutOfMemory as printMemory};
+ghost use Rattle.notation.specs.declared.line.LineError.TheVariants.{OutOfMemory as line_memory};
+ghost use Rattle.notation.specs.declared.line.PrintError.TheVariants.{OutOfMemory as print_memory};
 
 use events::kinds::{EventKind, ScalarStyle};
 use std::alloc::{AllocError, AllocFailed};
@@ -53,7 +53,7 @@ pub enum PrintError {
 }
 
 impl From<AllocError> for LineError {
-    ghost from_gives = { λ _ r. r ≡ lineMemory };
+    ghost from_gives = { λ _ r. r ≡ line_memory };
 
     fn from(_e: AllocError) -> LineError {
         LineError::OutOfMemory
@@ -61,7 +61,7 @@ impl From<AllocError> for LineError {
 }
 
 impl<T: Drop> From<AllocFailed<T>> for LineError {
-    ghost from_gives = { λ _ r. r ≡ lineMemory };
+    ghost from_gives = { λ _ r. r ≡ line_memory };
 
     fn from(_e: AllocFailed<T>) -> LineError {
         LineError::OutOfMemory
@@ -69,7 +69,7 @@ impl<T: Drop> From<AllocFailed<T>> for LineError {
 }
 
 impl From<AllocError> for PrintError {
-    ghost from_gives = { λ _ r. r ≡ printMemory };
+    ghost from_gives = { λ _ r. r ≡ print_memory };
 
     fn from(_e: AllocError) -> PrintError {
         PrintError::OutOfMemory
@@ -77,7 +77,7 @@ impl From<AllocError> for PrintError {
 }
 
 impl<T: Drop> From<AllocFailed<T>> for PrintError {
-    ghost from_gives = { λ _ r. r ≡ printMemory };
+    ghost from_gives = { λ _ r. r ≡ print_memory };
 
     fn from(_e: AllocFailed<T>) -> PrintError {
         PrintError::OutOfMemory
