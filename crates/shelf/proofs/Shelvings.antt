@@ -10,7 +10,7 @@ use Rattle.catalogue.specs.Entries.{Entry, known, look_up, answer, numbered, dis
 use Rattle.catalogue.proofs.Lists.{numbered_push, distinct_push}
 use Rattle.shelf.specs.declared.place.Place.{Place}
 use Rattle.shelf.specs.Places.{entry_of, shelved_in}
-use Rattle.shelf.specs.Shelving.{fits_aShelf, takes, new_entry, shelving}
+use Rattle.shelf.specs.Shelving.{fits_a_shelf, takes, new_entry, shelving}
 use Rattle.shelf.proofs.Tables.{length_shelved, shelved_push}
 
 -- what `takes` says that later steps use
@@ -23,8 +23,8 @@ pub record Taken (es : List Entry) (path : List ℕ) (number : ℕ) : Type 0 whe
 pub taken : (es : List Entry) (path : List ℕ) (number : ℕ) (piece : Piece) → takes es path number piece ≡ true → Taken es path number
 taken es path number piece h =
     let counts = leb piece.marks.len 65535 && leb piece.events.len 65535 in
-    let a = and_parts (ltb (length es) 256) (fits_aShelf path number piece && not (known es path)) h in
-    let b = and_parts (fits_aShelf path number piece) (not (known es path)) a.1 in
+    let a = and_parts (ltb (length es) 256) (fits_a_shelf path number piece && not (known es path)) h in
+    let b = and_parts (fits_a_shelf path number piece) (not (known es path)) a.1 in
     let f = and_parts (leb 1 (length path)) (leb (length path) 64 && (ltb 0 number && counts)) b.0 in
     let g = and_parts (leb (length path) 64) (ltb 0 number && counts) f.1 in
     let n = and_parts (ltb 0 number) counts g.1 in

@@ -6,13 +6,13 @@ use Rattle.catalogue.specs.declared.answers.CatalogueError.TheVariants.{NotShelv
 use Rattle.catalogue.specs.Entries.{Entry, known}
 
 -- a path of 1 to 64 bytes, a number that is not 0, and counts of at most 65,535
-abbrev pub fits_aShelf : List ℕ → ℕ → Piece → Bool
-fits_aShelf path number piece =
+abbrev pub fits_a_shelf : List ℕ → ℕ → Piece → Bool
+fits_a_shelf path number piece =
     nat_le 1 (length path) && (nat_le (length path) 64 && (nat_lt 0 number && (nat_le piece.marks.len 65535 && nat_le piece.events.len 65535)))
 
 -- there is room, and the path is not known yet
 abbrev pub takes : List Entry → List ℕ → ℕ → Piece → Bool
-takes es path number piece = nat_lt (length es) 256 && (fits_aShelf path number piece && not (known es path))
+takes es path number piece = nat_lt (length es) 256 && (fits_a_shelf path number piece && not (known es path))
 
 abbrev pub new_entry : List ℕ → ℕ → Piece → Entry
 new_entry p n x = record { path = p; number = n; piece = x; stands = true }

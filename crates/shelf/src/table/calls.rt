@@ -4,7 +4,7 @@ ghost use Rattle.catalogue.specs.Entries.{known, look_up, standing, withdrawn};
 ghost use Rattle.catalogue.specs.declared.answers.Resolution.TheVariants.{Found};
 ghost use Rattle.shelf.specs.Meaning.{entries_of};
 ghost use Rattle.shelf.specs.Places.{entry_of};
-ghost use Rattle.shelf.specs.Shelving.{fits_aShelf, takes, shelving};
+ghost use Rattle.shelf.specs.Shelving.{fits_a_shelf, takes, shelving};
 ghost use Rattle.std.proofs.Common.{arith};
 ghost use Rattle.std.proofs.lemmas.List.{length-map, length-take};
 
@@ -22,7 +22,7 @@ const LARGEST_COUNT: u32 = 65535;
 
 /// Whether any shelf could take an entry: its path has 1 to 64 bytes, its number is not 0, and its counts fit 16 bits.
 fn fits_a_shelf(path: &[u8], number: u32, piece: Piece) -> bool
-    ensures { result ≡ fits_aShelf path.now number piece }
+    ensures { result ≡ fits_a_shelf path.now number piece }
 {
     path.len() >= 1
         && path.len() <= LONGEST_PATH

@@ -36,16 +36,12 @@ invariant_of-self c =
     let s = c.args.self.now in
     let t = sym c.if-not-takes.ensures in
     let new = c.filled-place.result in
-    let room = room_left s.places s.count s.sized s.filled_within c.args.path.now c.args.number c.args.piece t in (
-      length-set s.places s.count new ∙ s.sized,
-      (
-        omega arith,
-        (
-          still_numbered s.places s.count s.sized s.filled_within c.args.path.now c.args.number c.args.piece t new c.filled-place.ensures s.numbers_not_0,
-          (still_distinct s.places s.count s.sized s.filled_within c.args.path.now c.args.number c.args.piece t new c.filled-place.ensures s.paths_distinct, tt),
-        ),
-      ),
-    )
+    let room = room_left s.places s.count s.sized s.filled_within c.args.path.now c.args.number c.args.piece t in record {
+      sized = length-set s.places s.count new ∙ s.sized;
+      filled_within = omega arith;
+      numbers_not_0 = still_numbered s.places s.count s.sized s.filled_within c.args.path.now c.args.number c.args.piece t new c.filled-place.ensures s.numbers_not_0;
+      paths_distinct = still_distinct s.places s.count s.sized s.filled_within c.args.path.now c.args.number c.args.piece t new c.filled-place.ensures s.paths_distinct;
+    }
 
 pub returns : goal.returns
 returns c =

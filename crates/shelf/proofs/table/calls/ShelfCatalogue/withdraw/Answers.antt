@@ -16,7 +16,12 @@ invariant_of-self c =
     let w : k ≤ length ps = omega arith in
     let long = length_withdrawn n ps front k (k - 0) (sub-zero k) w c.withdraw_in.auto.places c.withdraw_in.ensures.list in
     let list = shelved_withdrawn n ps front k (k - 0) (sub-zero k) w c.withdraw_in.auto.places c.withdraw_in.ensures.list in
-    (long ∙ c.args.self.now.sized, (c.args.self.now.filled_within, (ap numbered list ∙ numbered_withdrawn n (shelved_in ps k) ∙ c.args.self.now.numbers_not_0, (ap distinct list ∙ distinct_withdrawn n (shelved_in ps k) ∙ c.args.self.now.paths_distinct, tt))))
+    record {
+      sized = long ∙ c.args.self.now.sized;
+      filled_within = c.args.self.now.filled_within;
+      numbers_not_0 = ap numbered list ∙ numbered_withdrawn n (shelved_in ps k) ∙ c.args.self.now.numbers_not_0;
+      paths_distinct = ap distinct list ∙ distinct_withdrawn n (shelved_in ps k) ∙ c.args.self.now.paths_distinct;
+    }
 
 pub returns : goal.returns
 returns c =
