@@ -1,8 +1,7 @@
--- Entries under flags: the laws do not look at what stands, fresh flags change nothing, and what withdrawing by flags does.
-use Rattle.std.proofs.Common.{◌≡◌, ℕ, zero, suc, ◌+◌, ◌<◌, ◌≤◌, Bool, true, false, not, ◌&&◌, ◌||◌, eqb, ltb, ◌≢◌, List, [], ◌∷◌, length, get_or, replicate, sym, refl, ap, ◌∙◌, arith, length-set, get_or-set_other, get_or-set_same}
-use Rattle.std.specs.Str.{bytes_eq}
+-- Entries under flags: fresh flags change nothing, and what withdrawing by flags does.
+use Rattle.std.proofs.Common.{◌≡◌, ℕ, zero, suc, ◌+◌, ◌<◌, ◌≤◌, Bool, true, false, not, ◌&&◌, eqb, ◌≢◌, List, [], ◌∷◌, length, get_or, replicate, sym, refl, ap, ◌∙◌, arith, length-set, get_or-set_other, get_or-set_same}
 use Rattle.std.proofs.lemmas.Bool.{and_right}
-use Rattle.catalogue.specs.Entries.{Entry, Lawful, known, numbered, distinct, withdrawn, standing}
+use Rattle.catalogue.specs.Entries.{Entry, withdrawn, standing}
 use Rattle.binder.specs.Binding.{flagged, flagged_entry, flags_after, stood_at}
 use Rattle.binder.specs.Entries.{walk, entry_of, behind_entry}
 
@@ -14,31 +13,6 @@ fresh (suc n) (suc i) = fresh n i
 pub flagged_fresh : (i m n : ℕ) (xs : List ℕ) → flagged i (replicate m false) (walk n xs) ≡ walk n xs
 flagged_fresh i m zero xs = refl
 flagged_fresh i m (suc n) xs = λ j. flagged_entry (fresh m i j) (entry_of xs) ∷ flagged_fresh (i + 1) m n (behind_entry xs) j
-
--- the laws do not look at what stands
-length_flagged : (i : ℕ) (fs : List Bool) (es : List Entry) → length (flagged i fs es) ≡ length es
-length_flagged i fs [] = refl
-length_flagged i fs (e ∷ es) = ap suc (length_flagged (i + 1) fs es)
-
-known_flagged : (i : ℕ) (fs : List Bool) (es : List Entry) (p : List ℕ) → known (flagged i fs es) p ≡ known es p
-known_flagged i fs [] p = refl
-known_flagged i fs (e ∷ es) p = ap (λ b. bytes_eq e.path p || b) (known_flagged (i + 1) fs es p)
-
-numbered_flagged : (i : ℕ) (fs : List Bool) (es : List Entry) → numbered (flagged i fs es) ≡ numbered es
-numbered_flagged i fs [] = refl
-numbered_flagged i fs (e ∷ es) = ap (λ b. ltb 0 e.number && b) (numbered_flagged (i + 1) fs es)
-
-distinct_flagged : (i : ℕ) (fs : List Bool) (es : List Entry) → distinct (flagged i fs es) ≡ distinct es
-distinct_flagged i fs [] = refl
-distinct_flagged i fs (e ∷ es) = λ j. not (known_flagged (i + 1) fs es e.path j) && distinct_flagged (i + 1) fs es j
-
-pub lawful_flagged : (fs : List Bool) (es : List Entry) → Lawful es → Lawful (flagged 0 fs es)
-lawful_flagged fs es l =
-    record {
-      at_most_256 = omega (arith, length_flagged 0 fs es, l.at_most_256);
-      numbers_not_0 = numbered_flagged 0 fs es ∙ l.numbers_not_0;
-      paths_distinct = distinct_flagged 0 fs es ∙ l.paths_distinct;
-    }
 
 -- the flags once all entries of a number are withdrawn
 abbrev pub struck : ℕ → List Entry → ℕ → List Bool → List Bool

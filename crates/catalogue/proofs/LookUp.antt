@@ -1,13 +1,12 @@
 -- A look-up tells whether an entry of the list has the path and stands.
-use Rattle.std.proofs.Common.{◌≡◌, ℕ, Bool, true, false, cond, not, ◌&&◌, ◌||◌, ◌⊎◌, List, [], ◌∷◌, sym, refl, ap, ◌∙◌, inl, inr, arith}
+use Rattle.std.proofs.Common.{◌≡◌, ℕ, Bool, true, false, cond, not, ◌||◌, ◌⊎◌, List, [], ◌∷◌, sym, refl, ap, ◌∙◌, inl, inr, arith}
 use Rattle.std.specs.Str.{bytes_eq}
-use Rattle.std.proofs.lemmas.Bool.{cases_Bool, both_ways, and_parts, not-true, or_parts}
+use Rattle.std.proofs.lemmas.Bool.{cases_Bool, both_ways, and_parts, not-true}
 use Rattle.std.proofs.lemmas.Slice.Eq.{bytes_eq-Decides}
 use Rattle.events.specs.declared.score.Piece.{Piece}
-use Rattle.catalogue.specs.declared.answers.Resolution.{Resolution}
 use Rattle.catalogue.specs.declared.answers.Resolution.TheVariants.{Found, Withdrawn, Unknown}
-use Rattle.catalogue.specs.Entries.{Entry, Lawful, look_up, answer, known, distinct}
-use Rattle.catalogue.specs.Laws.{Among, Lacks, Has, Stands, TellsTheList, LookUpTellsTheList}
+use Rattle.catalogue.specs.Entries.{Entry, look_up, answer, known, distinct}
+use Rattle.catalogue.specs.Laws.{Among, Lacks, Has, Stands, LookUpTellsTheList}
 
 -- what an answer says of the entry that gave it
 found_stands : (s : Bool) (a n : ℕ) (b x : Piece) → cond s (Found a b) Withdrawn ≡ Found n x → (s ≡ true) × (a ≡ n) × (b ≡ x)

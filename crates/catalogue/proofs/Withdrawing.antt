@@ -1,5 +1,5 @@
 -- Withdrawing a number touches only the entries of that number.
-use Rattle.std.proofs.Common.{◌≡◌, ℕ, true, not, eqb, get_or, sym, refl, ap, subst}
+use Rattle.std.proofs.Common.{ℕ, not, eqb, get_or, sym, refl, subst}
 use Rattle.std.proofs.lemmas.List.{length-map, get_or-map}
 use Rattle.std.proofs.lemmas.Bool.{eqb-false, ne_eqb, and_parts, and_from, not-true, not_from_false}
 use Rattle.catalogue.specs.Entries.{Entry, withdrawn_entry}

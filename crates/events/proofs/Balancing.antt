@@ -1,5 +1,5 @@
 -- The nesting rule holds exactly of balanced events.
-use Rattle.std.proofs.Common.{◌≡◌, ℕ, Bool, true, false, cond, ◌⊎◌, List, [], ◌∷◌, ◌++◌, Some, None, Option, sym, refl, ap, ◌∙◌, subst, inl, inr, append_assoc, arith}
+use Rattle.std.proofs.Common.{◌≡◌, ℕ, Bool, true, false, cond, List, [], ◌∷◌, ◌++◌, Some, None, Option, refl, ap, ◌∙◌, subst, inl, inr, append_assoc, arith}
 use Rattle.events.specs.declared.score.Event.{Event}
 use Rattle.events.specs.declared.kinds.EventKind.{EventKind}
 use Rattle.events.specs.declared.kinds.EventKind.TheVariants.{StreamStart, StreamEnd, DocumentStart, DocumentEnd, Alias, Scalar, SequenceStart, SequenceEnd, MappingStart, MappingEnd}
@@ -7,7 +7,7 @@ use Rattle.events.specs.declared.kinds.Container.{Container}
 use Rattle.events.specs.declared.kinds.Container.TheVariants.{Sequence, Mapping}
 use Rattle.events.specs.Scores.{kind}
 use Rattle.events.specs.Walks.{onward, keeps}
-use Rattle.events.specs.Rules.{none, same, shut, turned, turned_by, turned_at, nests}
+use Rattle.events.specs.Rules.{none, shut, turned, turned_by, turned_at, nests}
 use Rattle.events.specs.Balance.{Is, starts, ends, Single, Outer, Balanced, empty, outer, single, collection, NestingIsBalance}
 
 -- the rule from a place on, with the containers that are open there

@@ -1,9 +1,9 @@
 -- The last mark of a name.
-use Rattle.std.proofs.Common.{◌≡◌, ℕ, zero, suc, ◌+◌, ◌-◌, ◌<◌, ◌≤◌, Bool, true, false, List, [], ◌∷◌, length, get_or, drop, Some, None, Option, sym, refl, ap, ◌∙◌, subst, add-one, arith, MatchOption}
+use Rattle.std.proofs.Common.{◌≡◌, ℕ, zero, suc, ◌+◌, ◌-◌, ◌<◌, ◌≤◌, Bool, true, false, List, [], ◌∷◌, length, get_or, drop, Some, None, Option, sym, refl, ap, ◌∙◌, add-one, arith, MatchOption}
 use Rattle.std.proofs.lemmas.List.{drop_more, drop_all}
 use Rattle.events.specs.declared.score.Mark.{Mark}
 use Rattle.events.specs.Scores.{found_if, no_mark}
-use Rattle.events.specs.Tables.{is_named, or_else, last_from, last_named, IsLast, NoneNamed, FindsLast}
+use Rattle.events.specs.Tables.{is_named, or_else, last_from, last_named, FindsLast}
 
 or_else_assoc : {A : Type 0} (a b c : Option A) → or_else (or_else a b) c ≡ or_else a (or_else b c)
 or_else_assoc None b c = refl

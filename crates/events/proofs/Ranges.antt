@@ -1,11 +1,9 @@
 -- Where the nodes of balanced events start and end.
-use Rattle.std.proofs.Common.{◌≡◌, ℕ, zero, suc, ◌+◌, ◌-◌, ◌<◌, ◌≤◌, Bool, true, false, cond, eqb, ◌⊎◌, List, [], ◌∷◌, ◌++◌, length, get_or, drop, Some, None, Option, sym, refl, ap, ◌∙◌, subst, inl, inr, append_assoc, add-one, arith, length-append, length-drop, get_or-drop, drop-drop, get_or-append-add}
+use Rattle.std.proofs.Common.{◌≡◌, ℕ, zero, suc, ◌+◌, ◌-◌, ◌<◌, ◌≤◌, Bool, true, false, cond, eqb, ◌⊎◌, List, [], ◌∷◌, ◌++◌, length, get_or, drop, sym, refl, ap, ◌∙◌, subst, inl, inr, append_assoc, add-one, arith, length-append, length-drop, get_or-drop, drop-drop, get_or-append-add}
 use Rattle.std.proofs.lemmas.List.{get_or_append_left}
 use lib.Seq.{drop-append-le, drop-append-add}
 use Rattle.std.proofs.lemmas.Bool.{ne_eqb, cases_lt, both_ways}
 use Rattle.events.specs.declared.score.Event.{Event}
-use Rattle.events.specs.declared.kinds.EventKind.{EventKind}
-use Rattle.events.specs.declared.kinds.EventKind.TheVariants.{StreamStart, StreamEnd, DocumentStart, DocumentEnd, Alias, Scalar, SequenceStart, SequenceEnd, MappingStart, MappingEnd}
 use Rattle.events.specs.declared.kinds.Container.{Container}
 use Rattle.events.specs.declared.kinds.Container.TheVariants.{Sequence, Mapping}
 use Rattle.events.specs.Scores.{kind, no_event}

@@ -1,5 +1,5 @@
 -- What the first rule gives: how long the lists of a piece are.
-use Rattle.std.proofs.Common.{◌≡◌, ℕ, ◌+◌, ◌-◌, ◌<◌, ◌≤◌, min, Bool, true, false, ◌&&◌, leb, List, length, take, drop, Some, sym, refl, ap, ◌∙◌, arith, length-drop, length-take}
+use Rattle.std.proofs.Common.{◌≡◌, ℕ, ◌+◌, ◌≤◌, Bool, true, false, ◌&&◌, leb, List, length, drop, Some, arith, length-drop, length-take}
 use Rattle.std.proofs.lemmas.Bool.{and_parts, leb-true}
 use Rattle.events.specs.declared.score.Run.{Run}
 use Rattle.events.specs.declared.score.Piece.{Piece}

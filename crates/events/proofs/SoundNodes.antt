@@ -1,17 +1,16 @@
 -- What the nodes of a sound piece are.
-use Rattle.std.proofs.Common.{◌≡◌, ℕ, suc, ◌+◌, ◌-◌, ◌<◌, ◌≤◌, Bool, true, false, cond, not, ◌&&◌, eqb, ◌⊎◌, List, [], ◌∷◌, ◌++◌, length, get_or, take, drop, is_some, Some, None, Option, sym, refl, ap, ◌∙◌, subst, inl, inr, arith, take_all}
+use Rattle.std.proofs.Common.{◌≡◌, ℕ, ◌+◌, ◌-◌, ◌<◌, ◌≤◌, Bool, true, false, cond, not, eqb, ◌⊎◌, List, length, get_or, take, drop, is_some, Some, None, sym, refl, ap, ◌∙◌, subst, inl, inr, arith, take_all}
 use lib.Seq.{take-append_seam}
 use Rattle.std.proofs.lemmas.Bool.{cases_lt, and_parts, both_ways}
 use Rattle.events.specs.declared.score.Event.{Event}
 use Rattle.events.specs.declared.score.Piece.{Piece}
 use Rattle.events.specs.declared.score.NodeRange.{NodeRange}
 use Rattle.events.specs.declared.kinds.EventKind.TheVariants.{Alias}
-use Rattle.events.specs.declared.kinds.Rule.{Rule}
 use Rattle.events.specs.declared.kinds.Rule.TheVariants.{Sizes, Nesting, Numbering, Aliases}
 use Rattle.events.specs.Scores.{Lists, events_of, kind, no_event}
-use Rattle.events.specs.Rules.{sizes_hold, nests, numbers, points_back, first_broken, sound}
+use Rattle.events.specs.Rules.{sizes_hold, nests, numbers, points_back, sound}
 use Rattle.events.specs.Balance.{Balanced, Node}
-use Rattle.events.specs.Nodes.{starts_node, carries, closing, end_of, ranges_from, range_of, no_range, events_in, Starts, OneNode, Inside, Disjoint, NestOrDisjoint, NamesBefore, SoundNodes, SoundPiecesHaveNodes}
+use Rattle.events.specs.Nodes.{starts_node, carries, closing, end_of, ranges_from, range_of, events_in, Starts, OneNode, NestOrDisjoint, NamesBefore, SoundNodes, SoundPiecesHaveNodes}
 use Rattle.events.proofs.Balancing.{nesting_is_balance}
 use Rattle.events.proofs.Ranges.{Ranged, ranged, ends_inside}
 use Rattle.events.proofs.Numbers.{carriers, count_is, number_is, names_is, carriers_take, carriers_rise}

@@ -1,8 +1,8 @@
 -- The open containers that a table and a count stand for, as one is pushed, closed or looked for.
-use Rattle.std.proofs.Common.{◌≡◌, ℕ, zero, suc, ◌+◌, ◌-◌, ◌<◌, ◌≤◌, Bool, true, false, cond, eqb, ◌≢◌, ◌⊎◌, List, [], ◌∷◌, length, get_or, set, Some, None, Option, sym, refl, ap, ◌∙◌, inl, inr, add-one, arith, get_or-set_other, get_or-set_same}
-use Rattle.std.proofs.lemmas.Bool.{eq-eqb, ne_eqb}
+use Rattle.std.proofs.Common.{◌≡◌, ℕ, zero, suc, ◌+◌, ◌-◌, ◌<◌, ◌≤◌, true, false, cond, eqb, ◌≢◌, ◌⊎◌, List, ◌∷◌, length, get_or, set, Some, None, sym, refl, ap, ◌∙◌, inl, inr, add-one, arith, get_or-set_other, get_or-set_same}
+use Rattle.std.proofs.lemmas.Bool.{ne_eqb}
 use Rattle.events.specs.declared.kinds.Container.{Container}
-use Rattle.events.specs.declared.kinds.Container.TheVariants.{Sequence, Mapping}
+use Rattle.events.specs.declared.kinds.Container.TheVariants.{Sequence}
 use Rattle.events.specs.declared.kinds.EventKind.{EventKind}
 use Rattle.events.specs.declared.kinds.EventKind.TheVariants.{StreamStart, StreamEnd, DocumentStart, DocumentEnd}
 use Rattle.events.specs.Rules.{none, same, shut, turned}

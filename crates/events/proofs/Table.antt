@@ -1,5 +1,5 @@
 -- The table of the ranges of the nodes with numbers.
-use Rattle.std.proofs.Common.{◌≡◌, ℕ, zero, suc, ◌+◌, ◌-◌, ◌<◌, ◌≤◌, Bool, true, false, List, [], ◌∷◌, length, get_or, take, drop, sym, refl, ap, ◌∙◌, subst, arith}
+use Rattle.std.proofs.Common.{◌≡◌, ℕ, zero, suc, ◌+◌, ◌<◌, Bool, true, false, List, [], ◌∷◌, length, get_or, take, drop, refl, ap, ◌∙◌, arith}
 use Rattle.events.specs.declared.score.Event.{Event}
 use Rattle.events.specs.declared.score.NodeRange.{NodeRange}
 use Rattle.events.specs.Scores.{no_event}

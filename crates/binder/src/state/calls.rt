@@ -1,10 +1,11 @@
 //! The binder's calls.
 ghost use Rattle.std.specs.Prelude.{◌≡◌, ◌<◌, ◌≤◌, true, false, [], replicate, is_err};
-ghost use Rattle.catalogue.specs.Entries.{answer as answerFor};
+ghost use Rattle.catalogue.specs.Entries.{answer as answer_for};
 ghost use Rattle.binder.specs.Binding.{bound, flags_after, stood_at, flagged_entry};
 ghost use Rattle.binder.specs.Entries.{entry_of};
 ghost use Rattle.binder.specs.Laws.{AcceptedExactly};
 ghost use Rattle.binder.specs.Meaning.{entries_of};
+ghost use Rattle.binder.specs.Meant.{lawful_binder};
 
 use crate::entries::{behind_entry, behind_path, path_of, piece_of};
 use crate::fields::u32_of;
@@ -42,7 +43,7 @@ impl Flags {
 
 // What the entry at the front answers, under its flag.
 fn answer_of(s: &[u8], withdrawn: bool) -> Resolution
-    ensures is_its_answer { result ≡ answerFor (flagged_entry withdrawn (entry_of s.now)) }
+    ensures is_its_answer { result ≡ answer_for (flagged_entry withdrawn (entry_of s.now)) }
 {
     if withdrawn {
         return Resolution::Withdrawn;
@@ -84,6 +85,8 @@ impl<'a> Binder<'a> {
 
 impl<'a> Catalogue for Binder<'a> {
     ghost entries = { entries_of };
+
+    ghost lawful = { lawful_binder };
 
     fn resolve(&self, path: &[u8]) -> Resolution {
         let mut rest = behind(self.bytes, 7);

@@ -1,4 +1,4 @@
-use Rattle.std.proofs.Common.{◌≡◌, true, sym, ◌∙◌}
+use Rattle.std.proofs.Common.{true, sym, ◌∙◌}
 use Rattle.events.specs.Rules.{named_at}
 use Rattle.events.specs.Scores.{no_event}
 use Rattle.events.proofs.Loops.{keeps_on, keeps_fails, keeps_ends}

@@ -1,4 +1,4 @@
-use Rattle.std.proofs.Common.{◌≡◌, sym, ◌∙◌}
+use Rattle.std.proofs.Common.{sym, ◌∙◌}
 use Rattle.events.specs.Rules.{mark_fits}
 use Rattle.events.specs.Scores.{no_mark}
 use Rattle.events.proofs.Loops.{all_passes, all_fails, all_ends}

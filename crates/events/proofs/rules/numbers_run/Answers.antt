@@ -1,4 +1,4 @@
-use Rattle.std.proofs.Common.{◌≡◌, true, eqb, sym, ◌∙◌}
+use Rattle.std.proofs.Common.{eqb, sym, ◌∙◌}
 use Rattle.events.specs.Rules.{numbered_at}
 use Rattle.events.specs.Scores.{no_event}
 use Rattle.events.proofs.Loops.{keeps_on, keeps_fails, keeps_ends}

@@ -9,7 +9,7 @@ use Rattle.binder.specs.Entries.{wrong, count_of, listed, parsed_by}
 use Rattle.binder.specs.Laws.{AcceptedExactly}
 use Rattle.binder.specs.Meaning.{entries_of}
 use Rattle.binder.proofs.Flags.{flagged_fresh}
-use Rattle.binder.proofs.Good.{wrong_none}
+use Rattle.binder.specs.Good.{wrong_none}
 use Rattle.binder.proofs.Packing.{accepted_exactly}
 use Rattle.binder.proofs.state.Binder.bind.Goals as goal
 
@@ -23,7 +23,11 @@ pub invariant_of-self : goal.invariant_of-self
 invariant_of-self c =
     let bs = c.args.bytes.now in
     let none : wrong bs ≡ None = sym c.in_default.ensures.is_the_first_wrong_field in
-    (ap length c.new-flags.ensures.none_is_set ∙ length-replicate 256 false, ((wrong_none bs none).0.few, (ap fine none, tt)))
+    record {
+      a_flag_for_each = ap length c.new-flags.ensures.none_is_set ∙ length-replicate 256 false;
+      at_most_256 = (wrong_none bs none).0.few;
+      good = ap fine none;
+    }
 
 pub returns-in-Some : goal.returns-in-Some
 returns-in-Some c =

@@ -1,4 +1,4 @@
-use Rattle.std.proofs.Common.{◌≡◌, sym, ap, ◌∙◌, arith}
+use Rattle.std.proofs.Common.{sym, ap, ◌∙◌, arith}
 use Rattle.events.specs.Stacks.{stacked, opened}
 use Rattle.events.proofs.Stacking.{none_open, turned_outer}
 use Rattle.events.proofs.nesting.OpenContainers.turn.Goals as goal

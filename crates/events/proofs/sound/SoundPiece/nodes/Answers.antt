@@ -1,4 +1,4 @@
-use Rattle.std.proofs.Common.{◌≡◌, List, length, sym, ap, ◌∙◌, subst, arith}
+use Rattle.std.proofs.Common.{List, length, sym, ap, ◌∙◌, subst, arith}
 use Rattle.events.specs.Checked.{lists_in, piece_in}
 use Rattle.events.specs.Nodes.{ranges_from}
 use Rattle.events.specs.declared.score.NodeRange.{NodeRange}

@@ -1,4 +1,4 @@
-use Rattle.std.proofs.Common.{◌≡◌, sym, ap, ◌∙◌}
+use Rattle.std.proofs.Common.{◌≡◌, ap, ◌∙◌}
 use Rattle.events.specs.declared.score.Stock.{Stock}
 use Rattle.events.specs.declared.score.Piece.{Piece}
 use Rattle.events.specs.Scores.{lists}

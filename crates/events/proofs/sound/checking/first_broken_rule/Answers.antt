@@ -1,4 +1,4 @@
-use Rattle.std.proofs.Common.{◌≡◌, List, length, sym, ap, ◌∙◌, arith}
+use Rattle.std.proofs.Common.{◌≡◌, List, length, sym, ap, arith}
 use Rattle.events.specs.declared.score.Event.{Event}
 use Rattle.events.specs.Scores.{lists, within, events_of}
 use Rattle.events.proofs.Sizes.{sized, part_length, found_is}

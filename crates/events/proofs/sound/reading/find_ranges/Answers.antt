@@ -1,6 +1,5 @@
-use Rattle.std.proofs.Common.{◌≡◌, ◌+◌, ◌<◌, true, length, get_or, sym, refl, ap, ◌∙◌, arith}
-use Rattle.events.specs.Scores.{no_event}
-use Rattle.events.specs.Nodes.{carries, ranges_from}
+use Rattle.std.proofs.Common.{◌<◌, length, sym, ◌∙◌, arith}
+use Rattle.events.specs.Nodes.{ranges_from}
 use Rattle.events.proofs.Table.{ranges_length}
 use Rattle.events.proofs.Filling.{carriers_here, carriers_pass, ranges_more, ranges_pass, ranges_end, carriers_end}
 use Rattle.events.proofs.sound.reading.find_ranges.Goals as goal

@@ -1,4 +1,4 @@
-use Rattle.std.proofs.Common.{◌≡◌, ℕ, ◌+◌, ◌-◌, ◌<◌, ◌≤◌, length, get_or, drop, sym, refl, ap, ◌∙◌, arith}
+use Rattle.std.proofs.Common.{◌≡◌, ◌+◌, get_or, drop, sym, refl, ap, ◌∙◌, arith}
 use Rattle.events.specs.Scores.{kind, no_event}
 use Rattle.events.specs.Nodes.{deeper, closing, end_of}
 use Rattle.events.proofs.Filling.{closing_stops, closing_more, closing_le, deeper_le}

@@ -1,8 +1,7 @@
-use Rattle.std.proofs.Common.{◌≡◌, ℕ, ◌+◌, ◌<◌, ◌≤◌, true, length, Err, sym, refl, ap, ◌∙◌, arith}
+use Rattle.std.proofs.Common.{◌≡◌, ℕ, ◌≤◌, length, Err, sym, refl, ap, ◌∙◌, arith}
 use Rattle.std.proofs.lemmas.List.{length-set}
 use Rattle.catalogue.specs.declared.answers.CatalogueError.TheVariants.{NotShelved}
 use Rattle.shelf.specs.Places.{shelved_in}
-use Rattle.shelf.specs.Shelving.{takes}
 use Rattle.shelf.proofs.Shelvings.{taken, taken_is, refused_is, room_left, table_grown, still_numbered, still_distinct, stands_now, others_as_before}
 use Rattle.shelf.proofs.Tables.{length_shelved}
 use Rattle.shelf.proofs.table.Shelf.shelve.Goals as goal

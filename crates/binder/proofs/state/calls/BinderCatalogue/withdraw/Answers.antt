@@ -5,7 +5,7 @@ use Rattle.binder.specs.Binding.{flagged, flags_after, stood_at}
 use Rattle.binder.specs.Entries.{entry_of, walk, behind_entry, count_of, listed}
 use Rattle.binder.specs.Fields.{be32}
 use Rattle.binder.proofs.Flags.{struck, flagged_struck, standing_more}
-use Rattle.binder.proofs.Good.{length_walk}
+use Rattle.binder.specs.Good.{length_walk}
 use Rattle.binder.proofs.Walks.{walk_more, walk_end}
 use Rattle.binder.proofs.state.calls.BinderCatalogue.withdraw.Goals as goal
 

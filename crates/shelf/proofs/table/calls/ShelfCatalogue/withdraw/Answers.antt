@@ -1,6 +1,6 @@
-use Rattle.std.proofs.Common.{◌≡◌, ◌-◌, ◌<◌, ◌≤◌, ◌++◌, map, length, take, drop, sym, ap, ◌∙◌, arith}
+use Rattle.std.proofs.Common.{◌-◌, ◌≤◌, map, length, take, ap, ◌∙◌, arith}
 use native.Mathlib.Nat.{sub-zero}
-use Rattle.catalogue.specs.Entries.{numbered, distinct, withdrawn, standing}
+use Rattle.catalogue.specs.Entries.{numbered, distinct, standing}
 use Rattle.shelf.specs.Places.{entry_of, shelved_in}
 use Rattle.catalogue.proofs.Lists.{numbered_withdrawn, distinct_withdrawn}
 use Rattle.catalogue.proofs.Withdrawing.{withdrawing_touches_only_its_number}
