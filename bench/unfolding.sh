@@ -8,8 +8,8 @@
 # passage, with the printing of its events. Twice the aliases may cost at most 2.2 times. The program has to be built first (bin/partbook does it).
 set -eu
 root=$(cd "$(dirname "$0")/.." && pwd)
-program=$root/target/bin/partbook
-[ -x "$program" ] || { echo "no $program: run 'rt check partbook' first" >&2; exit 2; }
+program=$root/crates/partbook/out/partbook
+[ -x "$program" ] || { echo "no $program: run bin/partbook --help first" >&2; exit 2; }
 work=$(mktemp -d)
 trap 'rm -rf "$work"' EXIT
 

@@ -5,7 +5,7 @@
 #     oracle/budget.sh FOLDER --write   the same, and writes the sample into crates/budget_tests/stdin and stdout
 #
 # The files are compiled as they are, from FOLDER, in a temporary folder, with the feature `comments` off, over stand-ins for the parser's
-# events and its tag, for `SmallVec`, and for two types that options.rs names. Our program has to be built first, by `rt check budget_tests`.
+# events and its tag, for `SmallVec`, and for two types that options.rs names. Our program has to be built first, by `rt run` in crates/budget_tests.
 #
 # A case is limits, policies and a list of inputs (oracle/budget/cases.rs), and both sides answer a line (oracle/budget/answers.rs). Ours has
 # to be the Rust's, but for one difference:

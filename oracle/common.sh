@@ -8,9 +8,9 @@ prepare() {
     fi
     folder=$(cd "$2" && pwd)
     root=$(dirname "$here")
-    program=$root/target/bin/$1
+    program=$root/crates/$1/out/$1
     if [ ! -x "$program" ]; then
-        echo "no $program: run 'rt check $1' first" >&2
+        echo "no $program: run 'rt run' in crates/$1 first" >&2
         exit 2
     fi
     build=$(mktemp -d)

@@ -5,7 +5,7 @@
 #     oracle/tags.sh FOLDER --write   the same, and writes the sample into crates/tags_tests/stdin and stdout
 #
 # Both files are compiled as they are, from FOLDER, in a temporary folder, over a stand-in for the parser's tag.
-# Our program has to be built first, by `rt check tags_tests`.
+# Our program has to be built first, by `rt run` in crates/tags_tests.
 #
 # How the answers go together (oracle/tags/oracle.rs, `expected`):
 #     Rust                                              ours
