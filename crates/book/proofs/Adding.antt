@@ -1,9 +1,8 @@
 -- A score that is added, and the lines of a text one by one.
-use Rattle.std.proofs.Common.{◌≡◌, ℕ, ◌+◌, ◌<◌, ◌≤◌, Bool, true, false, cond, leb, List, [], ◌∷◌, ◌++◌, length, Ok, Err, Result, sym, refl, ap, ◌∙◌}
+use Rattle.std.proofs.Common.{◌≡◌, ℕ, ◌+◌, ◌<◌, ◌≤◌, Bool, true, false, cond, leb, List, [], ◌∷◌, ◌++◌, length, Ok, Err, ap, ◌∙◌}
 use Rattle.std.proofs.lemmas.Bool.{le-leb, lt-leb}
 use Rattle.book.specs.declared.faults.BookFault.{BookFault}
 use Rattle.book.specs.declared.faults.BookFault.TheVariants.{RepeatedPath, TooManyScores}
-use Rattle.book.specs.declared.faults.BookError.{BookError}
 use Rattle.book.specs.Said.{SaidDraft, SaidScore}
 use Rattle.book.specs.Lookups.{any, path_is}
 use Rattle.book.specs.Books.{add_score, add_line, add_lines, onward}

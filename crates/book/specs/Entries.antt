@@ -1,11 +1,11 @@
 -- What the words of a line say.
-use Rattle.std.specs.Prelude.{ℕ, Bool, true, false, cond, List, [], ◌∷◌, length, Some, None, Ok, Err, codes, Option, Result, ◌==◌, nat_lt, slice_index}
+use Rattle.std.specs.Prelude.{ℕ, cond, List, [], ◌∷◌, length, Some, None, Ok, Err, codes, Option, Result, ◌==◌, nat_lt, slice_index}
 use Rattle.std.specs.Str.{bytes_eq}
 use Rattle.book.specs.declared.faults.BookFault.{BookFault}
 use Rattle.book.specs.declared.faults.BookFault.TheVariants.{UnknownEntry, WordCount, BadNumber, PathLength}
 use Rattle.book.specs.Decimal.{number_of}
 use Rattle.book.specs.Words.{first_piece, later_pieces, only_word}
-use Rattle.book.specs.Said.{SaidScore, SaidEntry}
+use Rattle.book.specs.Said.{SaidEntry}
 use Rattle.book.specs.Said.SaidEntry.{nothing, main, score, withdrawn}
 
 -- the number of a score: one that was read, and is not 0

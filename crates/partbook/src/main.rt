@@ -11,7 +11,8 @@ mod trouble;
 use command::{Command, USAGE, command_of};
 use load::load;
 use report::write_report;
-use std::{env, io};
+use std::env;
+use std::process::ExitCode;
 use trouble::Trouble;
 
 // The words of the call behind the program's name.
@@ -43,10 +44,12 @@ fn run(rt: &HostRuntime) -> Result<(), Trouble> {
     }
 }
 
-fn main(rt: HostRuntime) -> Result<(), Trouble> {
-    let done = run(&rt);
-    if let Err(trouble) = &done {
-        let _ = eprint!(rt; "{trouble}");
+fn main(rt: HostRuntime) -> ExitCode {
+    match run(&rt) {
+        Ok(()) => ExitCode::SUCCESS,
+        Err(trouble) => {
+            let _ = eprint!(rt; "{trouble}");
+            ExitCode::FAILURE
+        }
     }
-    done
 }

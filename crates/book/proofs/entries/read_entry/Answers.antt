@@ -1,4 +1,4 @@
-use Rattle.std.proofs.Common.{◌≡◌, sym, ap, ◌∙◌, inl, inr}
+use Rattle.std.proofs.Common.{sym, ap, ◌∙◌}
 use Rattle.slices.specs.Fields.{is_empty}
 use Rattle.book.specs.Entries.{entry_of}
 use Rattle.book.proofs.Cutting.{no_words}

@@ -1,4 +1,4 @@
-use Rattle.std.proofs.Common.{◌≡◌, sym, ◌∙◌}
+use Rattle.std.proofs.Common.{sym, ◌∙◌}
 use Rattle.book.specs.View.{said_scores}
 use Rattle.book.specs.declared.lines.Withdrawal.{Withdrawal}
 use Rattle.book.proofs.Searches.{known_passes, unknown_found, known_ends}

@@ -1,4 +1,4 @@
-use Rattle.std.proofs.Common.{◌≡◌, ℕ, Bool, sym, refl, ap, ◌∙◌}
+use Rattle.std.proofs.Common.{ℕ, Bool, sym, ◌∙◌}
 use Rattle.std.proofs.lemmas.Bool.{eq-eqb, ne_eqb}
 use Rattle.book.specs.declared.lines.ScoreLine.{ScoreLine}
 use Rattle.book.specs.Lookups.{number_is}
@@ -9,15 +9,15 @@ use Rattle.book.proofs.lookups.has_number.Goals as goal
 abbrev test : ℕ → ScoreLine → Bool
 test n s = number_is n (said_score s)
 
-pub returns-then-score_number : goal.returns-then-score_number
-returns-then-score_number c =
+pub returns-then-score-number : goal.returns-then-score-number
+returns-then-score-number c =
     let n = c.args.number in
-    record { some_number_is_equal = (sym (any_found (test n) c.args.scores.now c.loop-score.score-index c.score-item.result c.score-item.is c.loop-score-test.true (eq-eqb _ _ c.if-score_number.true)) ∙ c.loop-score.invariant) ∙ sym (any_map (number_is n) said_score c.args.scores.now) }
+    record { some_number_is_equal = (sym (any_found (test n) c.args.scores.now c.loop-score.score-index c.score-item.result c.score-item.is c.loop-score-test.true (eq-eqb _ _ c.if-score-number.true)) ∙ c.loop-score.invariant) ∙ sym (any_map (number_is n) said_score c.args.scores.now) }
 
 pub loop-score-preserved : goal.loop-score-preserved
 loop-score-preserved c =
     let n = c.args.number in
-    sym (any_passes (test n) c.args.scores.now c.loop-score.score-index c.score-item.result c.score-item.is c.loop-score-test.true (ne_eqb _ _ c.if-score_number.false)) ∙ c.loop-score.invariant
+    sym (any_passes (test n) c.args.scores.now c.loop-score.score-index c.score-item.result c.score-item.is c.loop-score-test.true (ne_eqb _ _ c.if-score-number.false)) ∙ c.loop-score.invariant
 
 pub returns : goal.returns
 returns c =

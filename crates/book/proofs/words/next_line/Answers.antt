@@ -1,4 +1,4 @@
-use Rattle.std.proofs.Common.{◌≡◌, length, drop, sym, ap, ◌∙◌, arith, length-drop}
+use Rattle.std.proofs.Common.{length, ap, arith, length-drop}
 use Rattle.book.proofs.Cutting.{first_line, later_lines}
 use Rattle.book.proofs.words.next_line.Goals as goal
 

@@ -1,7 +1,7 @@
-use Rattle.std.proofs.Common.{◌≡◌, true, false, Some, sym, ap, ◌∙◌}
+use Rattle.std.proofs.Common.{◌≡◌, false, Some, sym, ap, ◌∙◌}
 use Rattle.slices.specs.Fields.{is_empty}
 use Rattle.book.specs.Words.{first_piece, words_of, only_word}
-use Rattle.book.proofs.Cutting.{no_words, only_one, only_many}
+use Rattle.book.proofs.Cutting.{no_words, only_one}
 use Rattle.book.proofs.words.only_word.Goals as goal
 
 pub returns-then-empty : goal.returns-then-empty

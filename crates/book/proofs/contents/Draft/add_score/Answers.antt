@@ -32,7 +32,10 @@ invariant_of-self c =
     let d = c.args.self.now in
     let s = c.args.score in
     let new = new_path d s _ _ c.as_slice.ensures.value c.as_slice-2.ensures.value c.if-has_path.ensures.some_path_is_equal in
-    (pushed_few (is_ok c.push.result) (vec_len d.scores) _ c.push.ensures.len (omega (arith, c.len.ensures, c.if-len-ge-MOST_SCORES.false)), (pushed_distinct (is_ok c.push.result) (vec_items d.scores) _ s c.push.ensures.items d.paths_are_distinct new, tt))
+    record {
+      at_most_256_scores = pushed_few (is_ok c.push.result) (vec_len d.scores) _ c.push.ensures.len (omega (arith, c.len.ensures, c.if-len-ge-MOST_SCORES.false));
+      paths_are_distinct = pushed_distinct (is_ok c.push.result) (vec_items d.scores) _ s c.push.ensures.items d.paths_are_distinct new;
+    }
 
 pub returns : goal.returns
 returns c =

@@ -26,7 +26,11 @@ pub invariant_of-result : goal.invariant_of-result
 invariant_of-result c =
     let d = c.args.self in
     let e = unknown_of d _ _ _ c.as_slice.ensures.value c.as_slice-2.ensures.value c.in_default.ensures.value in
-    (d.at_most_256_scores, (d.paths_are_distinct, (all_known (said_scores (vec_items d.scores)) (vec_items d.withdrawn) e, tt)))
+    record {
+      at_most_256_scores = d.at_most_256_scores;
+      paths_are_distinct = d.paths_are_distinct;
+      withdrawn_numbers_are_known = all_known (said_scores (vec_items d.scores)) (vec_items d.withdrawn) e;
+    }
 
 pub returns-in-Some-main : goal.returns-in-Some-main
 returns-in-Some-main c =
