@@ -1,4 +1,4 @@
-use Rattle.std.proofs.Common.{◌≡◌, true, false, [], ◌∷◌, ◌++◌, get_or, drop, Some, vec_items, sym, refl, ap, ◌∙◌, inl, inr}
+use Rattle.std.proofs.Common.{true, false, [], ◌∷◌, ◌++◌, get_or, drop, Some, vec_items, sym, refl, ap, ◌∙◌, inr}
 use Rattle.std.proofs.lemmas.List.{drop_all, append-nil}
 use Rattle.notation.specs.Escapes.{behind_bytes, unescaped_from}
 use Rattle.notation.proofs.Escaping.{behind_none, step_meant, step_unknown, step_open, step_plain, turned}

@@ -1,4 +1,4 @@
-use Rattle.std.proofs.Common.{◌≡◌, List, [], ◌∷◌, ◌++◌, length, vec_items, vec_len, refl, ap, ◌∙◌, arith, rules}
+use Rattle.std.proofs.Common.{[], ◌∷◌, ◌++◌, length, vec_items, vec_len, refl, ap, ◌∙◌, arith, rules}
 use Rattle.events.specs.declared.score.Event.{Event}
 use Rattle.notation.specs.View.{said}
 use Rattle.notation.specs.Scores.{name_set}
