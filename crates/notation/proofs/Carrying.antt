@@ -1,14 +1,13 @@
 -- Texts that stand in the bytes of a stock stay there.
-use Rattle.std.proofs.Common.{◌≡◌, ℕ, ◌+◌, ◌-◌, ◌<◌, ◌≤◌, Bool, true, false, List, [], ◌∷◌, ◌++◌, length, take, drop, IfOk, Some, Ok, Err, vec_items, MatchBool, Result, sym, refl, ap, ◌∙◌, subst, arith, length-append, length-drop, MatchResult}
+use Rattle.std.proofs.Common.{◌≡◌, ℕ, ◌+◌, ◌-◌, ◌<◌, ◌≤◌, Bool, true, false, List, [], ◌∷◌, ◌++◌, length, take, drop, IfOk, Ok, Err, vec_items, MatchBool, Result, sym, refl, ap, ◌∙◌, subst, arith, length-append, length-drop, MatchResult}
 use Rattle.std.proofs.lemmas.List.{take_all, drop_at, drop-append-le, take-append-le}
-use Rattle.events.specs.declared.score.Mark.{Mark}
 use Rattle.events.specs.declared.score.Event.{Event}
 use Rattle.events.specs.declared.score.Run.{Run}
 use Rattle.events.specs.declared.score.Span.{Span}
 use Rattle.notation.specs.declared.builder.StockBuilder.{StockBuilder}
 use Rattle.slices.specs.Fields.{is_empty, place_of}
 use Rattle.notation.specs.Lines.{Said, shape_of, is_name, line_of}
-use Rattle.notation.specs.Scores.{Grows, Holds, Carries, Unmarked, Naming, Marking, Anchored, Step, Reached, begun, one_more, Ended, ReadThrough, added}
+use Rattle.notation.specs.Scores.{Grows, Holds, Carries, Unmarked, Naming, Marking, Anchored, Step, Reached, one_more, Ended, ReadThrough, added}
 
 pub holds_put : (xs ys more text : List ℕ) (run : Run) → ys ≡ xs ++ more → more ≡ text → run.start ≡ length xs → run.len ≡ length more → Holds ys run text
 holds_put xs ys more text run e t s l =

@@ -1,5 +1,5 @@
 -- Lists that only grow.
-use Rattle.std.proofs.Common.{◌≡◌, ℕ, ◌+◌, ◌≤◌, List, [], ◌∷◌, ◌++◌, length, take, Ok, Err, Result, sym, refl, ap, ◌∙◌, arith, length-append, MatchResult}
+use Rattle.std.proofs.Common.{◌≡◌, ℕ, ◌≤◌, List, [], ◌++◌, length, take, Ok, Err, Result, sym, ap, ◌∙◌, arith, length-append, MatchResult}
 use Rattle.std.proofs.lemmas.List.{append_assoc, append-nil, take_at}
 use Rattle.notation.specs.declared.builder.StockBuilder.{StockBuilder}
 use Rattle.notation.specs.Scores.{Grows, Grown}

@@ -1,7 +1,7 @@
 -- A printable line, written and then read, says what it said.
-use Rattle.std.proofs.Common.{◌≡◌, ℕ, suc, ◌+◌, Bool, true, false, cond, ◌&&◌, eqb, List, [], ◌∷◌, ◌++◌, length, take, drop, Ok, Err, Result, sym, refl, ap, ◌∙◌, arith, length-append}
-use Rattle.std.proofs.lemmas.List.{append_assoc, append-nil, take_at, drop_at}
-use Rattle.std.proofs.lemmas.Bool.{eq-eqb, ne_eqb, eqb-true, cond-true, cond-false, and_parts, false≢true}
+use Rattle.std.proofs.Common.{◌≡◌, ℕ, suc, ◌+◌, true, false, cond, eqb, List, [], ◌∷◌, ◌++◌, length, take, drop, Ok, Err, Result, sym, refl, ap, ◌∙◌, arith, length-append}
+use Rattle.std.proofs.lemmas.List.{append_assoc, take_at, drop_at}
+use Rattle.std.proofs.lemmas.Bool.{eq-eqb, ne_eqb, cond-true, cond-false, and_parts, false≢true}
 use Rattle.events.specs.declared.kinds.EventKind.{EventKind}
 use Rattle.events.specs.declared.kinds.EventKind.TheVariants.{StreamStart, StreamEnd, DocumentStart, DocumentEnd, Alias, Scalar, SequenceStart, SequenceEnd, MappingStart, MappingEnd}
 use Rattle.events.specs.declared.kinds.ScalarStyle.{ScalarStyle}
@@ -11,7 +11,7 @@ use Rattle.notation.specs.declared.parts.Shape.TheVariants.{Bare, Start, Value, 
 use Rattle.notation.specs.declared.line.LineError.{LineError}
 use Rattle.notation.specs.declared.line.LineError.TheVariants.{EmptyName, UnclosedTag, LineBreak, BadProperty, BadEscape}
 use Rattle.slices.specs.Fields.{is_empty, place_of, lacks, marked}
-use Rattle.notation.specs.Escapes.{escaped, unescaped}
+use Rattle.notation.specs.Escapes.{escaped}
 use Rattle.notation.specs.Lines.{Said, Part, Valued, opener, shape_of, name_mark, style_byte, fitting, value_fits, printable, shown_name, shown_tag, shown_value, shown_rest, shown, and_then, or_error, without_extra, named_in, name_in, tagged_in, tag_in, value_in, joined_parts, rest_of, parts_of, with_value, unescaped_value, line_of}
 use Rattle.slices.proofs.Places.{place_append, lacks_append, lacks_cons}
 use Rattle.notation.proofs.Escaping.{escaped_reads, escaped_lacks}

@@ -1,5 +1,5 @@
 -- What the values of the code hold, as lists.
-use Rattle.std.specs.Prelude.{ℕ, List, Ok, Err, vec_items, Result}
+use Rattle.std.specs.Prelude.{Ok, Err, vec_items, Result}
 use Rattle.notation.specs.declared.line.Line.{Line}
 use Rattle.notation.specs.declared.line.LineError.{LineError}
 use Rattle.notation.specs.declared.parts.Field.{Field}

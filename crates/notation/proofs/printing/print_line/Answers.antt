@@ -1,7 +1,7 @@
 use Rattle.std.proofs.Common.{◌≡◌, ℕ, true, List, ◌++◌, vec_items, sym, ap, ◌∙◌}
 use Rattle.events.specs.declared.kinds.ScalarStyle.{ScalarStyle}
 use Rattle.notation.specs.declared.parts.Shape.{Shape}
-use Rattle.notation.specs.Lines.{opener, name_mark, shape_of, shown_name, shown_tag, shown_value, shown, printable, line_of}
+use Rattle.notation.specs.Lines.{name_mark, shown_name, shown_tag, shown_value, shown, printable, line_of}
 use Rattle.notation.specs.View.{said}
 use Rattle.notation.proofs.Showing.{pushed_four}
 use Rattle.notation.proofs.ReadsBack.{reads_back}

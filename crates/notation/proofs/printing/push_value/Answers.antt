@@ -1,4 +1,4 @@
-use Rattle.std.proofs.Common.{◌≡◌, [], ◌∷◌, ◌++◌, vec_items, sym, ap, ◌∙◌}
+use Rattle.std.proofs.Common.{[], ◌∷◌, ◌++◌, vec_items, sym, ap, ◌∙◌}
 use Rattle.notation.specs.Escapes.{escaped}
 use Rattle.notation.specs.Lines.{shown_value}
 use Rattle.notation.proofs.Showing.{pushed_two}

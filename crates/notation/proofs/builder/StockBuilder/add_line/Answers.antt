@@ -1,4 +1,4 @@
-use Rattle.std.proofs.Common.{◌≡◌, List, [], ◌∷◌, ◌++◌, length, vec_items, vec_len, refl, ap, ◌∙◌, arith, rules}
+use Rattle.std.proofs.Common.{[], ◌∷◌, ◌++◌, length, vec_items, vec_len, refl, ap, ◌∙◌, arith, rules}
 use Rattle.events.specs.declared.score.Event.{Event}
 use Rattle.notation.specs.View.{said}
 use Rattle.notation.specs.Scores.{name_set}
@@ -18,7 +18,7 @@ returns-in_err-value c =
           let f = c.in_err-value.field-0.0 in
           let held = c.args.self.now.bytes in
           let held' = c.anchor_of.new.self.bytes in
-          refusing_exit c.from-residual-in_err-value.result _ f c.from-residual-in_err-value.ensures.1
+          refusing_exit c.from_residual-in_err-value.result _ f c.from_residual-in_err-value.ensures.1
           (read_cause c.args.first_mark c.args.first_event c.args.text.now c.args.self.now l f c.in_ok-line.ensures.is_the_reading_of_the_line
           (caused_weaker f (λ e h. h) (λ h. absurd h) (exceeded_behind (vec_len held) (vec_len held') (vec_items held) (vec_items held') (l.value ++ l.tag) (name_set l) (l.value ++ l.tag) (let h = held.ok.0 in omega arith) (let h = held'.ok.0 in omega arith) c.in_ok-anchor.ensures.bytes refl) (λ h. absurd h) (λ h. absurd h) c.in_err-value.ensures.refused));
     }
@@ -32,7 +32,7 @@ returns-in_err-anchor c =
       refused =
           let l = said c.in_ok-line.line in
           let f = c.in_err-anchor.field-0.0 in
-          refusing_exit c.from-residual-in_err-anchor.result _ f c.from-residual-in_err-anchor.ensures.1
+          refusing_exit c.from_residual-in_err-anchor.result _ f c.from_residual-in_err-anchor.ensures.1
           (read_cause c.args.first_mark c.args.first_event c.args.text.now c.args.self.now l f c.in_ok-line.ensures.is_the_reading_of_the_line
           (caused_weaker f (λ e h. h) (λ h. h) (exceeded_before (vec_len c.args.self.now.bytes) (name_set l) (name_set l) (l.value ++ l.tag) refl) (λ h. h) (λ h. absurd h) c.in_err-anchor.ensures.refused));
     }

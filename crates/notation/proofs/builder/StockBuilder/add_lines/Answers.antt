@@ -1,4 +1,4 @@
-use Rattle.std.proofs.Common.{◌≡◌, ◌+◌, ◌-◌, length, take, refl, ap, ◌∙◌, subst, arith, length-drop}
+use Rattle.std.proofs.Common.{◌+◌, ◌-◌, length, take, refl, ap, ◌∙◌, subst, arith, length-drop}
 use Rattle.slices.specs.Fields.{place_of}
 use Rattle.notation.specs.Scores.{begun}
 use Rattle.notation.specs.Causes.{LineCause}

@@ -1,6 +1,6 @@
-use Rattle.std.proofs.Common.{◌≡◌, ◌≤◌, vec_len, refl, ◌∙◌, arith}
+use Rattle.std.proofs.Common.{◌≤◌, refl, ◌∙◌, arith}
 use Rattle.notation.specs.Scores.{Counted}
-use Rattle.notation.specs.Causes.{too_long, at_line}
+use Rattle.notation.specs.Causes.{at_line}
 use Rattle.notation.proofs.Refusing.{stopped_before}
 use Rattle.notation.proofs.Carrying.{read_through}
 use Rattle.notation.proofs.Growing.{grows_cut, grows_length}

@@ -1,4 +1,4 @@
-use Rattle.std.proofs.Common.{◌≡◌, ◌++◌, vec_items, sym, refl, ap, ◌∙◌, arith}
+use Rattle.std.proofs.Common.{◌≡◌, ◌++◌, vec_items, refl, ap, ◌∙◌, arith}
 use Rattle.std.proofs.lemmas.Result.{err_from_is_err_and}
 use Rattle.notation.proofs.Growing.{grows_same, grows_is, grows_trans}
 use Rattle.notation.proofs.Carrying.{holds_put, holds_grows}
@@ -22,7 +22,7 @@ returns c =
 
 pub returns-in_err-value : goal.returns-in_err-value
 returns-in_err-value c =
-    let x = err_from_is_err_and c.from-residual.result c.from-residual.ensures.1 in
+    let x = err_from_is_err_and c.from_residual.result c.from_residual.ensures.1 in
     let line = c.args.line.now in
     let p = c.in_err-value.ensures in
     rw (x.1, x.2) (record {
@@ -38,7 +38,7 @@ returns-in_err-value c =
 
 pub returns-in_err-tag : goal.returns-in_err-tag
 returns-in_err-tag c =
-    let x = err_from_is_err_and c.from-residual-in_err-tag.result c.from-residual-in_err-tag.ensures.1 in
+    let x = err_from_is_err_and c.from_residual-in_err-tag.result c.from_residual-in_err-tag.ensures.1 in
     let line = c.args.line.now in
     let held = c.args.self.now.bytes in
     let held' = c.put_bytes.new.bytes in

@@ -1,4 +1,4 @@
-use Rattle.std.proofs.Common.{◌≡◌, vec_items, refl, ap, ◌∙◌, arith, rules}
+use Rattle.std.proofs.Common.{vec_items, refl, arith, rules}
 use Rattle.notation.proofs.Carrying.{holds_put, made_from}
 use Rattle.notation.proofs.Refusing.{caused_weaker, refusing_weaker}
 use Rattle.notation.proofs.builder.StockBuilder.set_mark.Goals as goal
