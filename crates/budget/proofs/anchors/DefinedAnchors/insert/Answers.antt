@@ -34,4 +34,4 @@ invariant_of-self c =
     let bs = c.args.self.now.flags in
     let k : c.args.anchor.number < length bs = search rules in
     let e = trues_set bs c.args.anchor.number k c.if-self-place.false in
-    (ap (λ x. x + 1) c.args.self.now.counted ∙ sym e, tt)
+    record { counted = ap (λ x. x + 1) c.args.self.now.counted ∙ sym e }
