@@ -1,7 +1,7 @@
-use Rattle.std.proofs.Common.{◌≡◌, Ok, Err, sym, refl, ap, ◌∙◌, subst}
-use Rattle.budget.specs.Counts.{Answer, Stepped, judged, cleared}
+use Rattle.std.proofs.Common.{Ok, sym, refl, subst}
+use Rattle.budget.specs.Counts.{Stepped, judged}
 use Rattle.budget.specs.Flags.{trues}
-use Rattle.budget.specs.Model.{with_report, with_flags, counting, renewed, document_by, good}
+use Rattle.budget.specs.Model.{with_report, with_flags, counting, renewed, document_by}
 use Rattle.budget.specs.View.{view}
 use Rattle.budget.proofs.Chains.{counted, next}
 use Rattle.budget.proofs.enforcer.BudgetEnforcer.document.Goals as goal
