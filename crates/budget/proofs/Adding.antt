@@ -1,15 +1,12 @@
 -- What one input adds to each count where the answer is good.
-use Rattle.std.proofs.Common.{◌≡◌, ℕ, ◌+◌, ◌<◌, ◌≤◌, max, Bool, true, false, cond, not, ◌&&◌, ◌||◌, eqb, List, [], ◌∷◌, length, get_or, set, replicate, Some, None, Ok, Err, sym, refl, ap, ◌∙◌, subst, arith, length-set, rules}
-use lib.ListN.{length-replicate}
+use Rattle.std.proofs.Common.{◌≡◌, Ok, sym, ◌∙◌, subst, rules}
 use Rattle.events.specs.declared.kinds.EventKind.{EventKind}
 use Rattle.events.specs.declared.kinds.EventKind.TheVariants.{StreamStart, StreamEnd, DocumentStart, DocumentEnd, Alias, Scalar, SequenceStart, SequenceEnd, MappingStart, MappingEnd}
-use Rattle.events.specs.declared.kinds.ScalarStyle.{ScalarStyle}
 use Rattle.budget.specs.declared.limits.AliasLimits.{AliasLimits}
 use Rattle.budget.specs.declared.policy.EnforcingPolicy.{EnforcingPolicy}
 use Rattle.budget.specs.declared.policy.EnforcingPolicy.TheVariants.{AllContent, PerDocument}
-use Rattle.budget.specs.Flags.{trues, defined}
 use Rattle.budget.specs.Observed.{Seen, Input, event, reference}
-use Rattle.budget.specs.Model.{Model, no_anchors, observed}
+use Rattle.budget.specs.Model.{Model, observed}
 use Rattle.budget.specs.Laws.{Adds}
 use Rattle.budget.proofs.Bounds.{Bounds}
 use Rattle.budget.proofs.Exact.{calm, calm_by, evented, documented_by, counted_exact}

@@ -1,10 +1,10 @@
 -- Steps that follow one another.
-use Rattle.std.proofs.Common.{◌≡◌, Ok, Err, sym, refl, ap, ◌∙◌, subst}
+use Rattle.std.proofs.Common.{◌≡◌, Ok, Err, sym, ap, ◌∙◌, subst}
 use Rattle.budget.specs.declared.limits.Budget.{Budget}
 use Rattle.budget.specs.declared.breach.BudgetReport.{BudgetReport}
 use Rattle.budget.specs.declared.breach.BudgetBreach.{BudgetBreach}
 use Rattle.budget.specs.Counts.{Answer, Stepped}
-use Rattle.budget.specs.Model.{Model, Outcome, on_good, and_then, counting, with_report, good}
+use Rattle.budget.specs.Model.{Model, Outcome, on_good, and_then, counting, with_report}
 
 -- a step of the report is one of the whole
 pub counted : (f : Budget → BudgetReport → BudgetReport × Answer) (m : Model) {s : BudgetReport} {r : Answer} → Stepped s r (f m.budget m.report) → Stepped (with_report m s) r (counting f m)

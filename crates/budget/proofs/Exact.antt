@@ -1,12 +1,9 @@
 -- What an input does where the answer is good.
-use Rattle.std.proofs.Common.{◌≡◌, ℕ, ◌+◌, ◌-◌, ◌^◌, ◌<◌, ◌≤◌, min, max, Bool, true, false, cond, ◌&&◌, ◌||◌, ltb, List, [], ◌∷◌, length, get_or, replicate, Some, None, Ok, Err, Option, sym, refl, ap, ◌∙◌, subst, add-zero, arith}
+use Rattle.std.proofs.Common.{◌≡◌, ℕ, ◌+◌, ◌^◌, ◌≤◌, max, Bool, true, false, cond, ◌&&◌, ltb, List, [], ◌∷◌, length, Some, None, Ok, Err, Option, sym, refl, ap, ◌∙◌, add-zero, arith}
 use Rattle.std.proofs.lemmas.Bool.{ltb-false}
 use Rattle.events.specs.declared.kinds.EventKind.{EventKind}
 use Rattle.events.specs.declared.kinds.EventKind.TheVariants.{StreamStart, StreamEnd, DocumentStart, DocumentEnd, Alias, Scalar, SequenceStart, SequenceEnd, MappingStart, MappingEnd}
-use Rattle.events.specs.declared.kinds.ScalarStyle.{ScalarStyle}
-use Rattle.budget.specs.declared.limits.Budget.{Budget}
 use Rattle.budget.specs.declared.limits.AliasLimits.{AliasLimits}
-use Rattle.budget.specs.declared.breach.BudgetReport.{BudgetReport}
 use Rattle.budget.specs.declared.breach.BudgetBreach.{BudgetBreach}
 use Rattle.budget.specs.declared.breach.BudgetBreach.TheVariants.{SequenceUnbalanced}
 use Rattle.budget.specs.declared.policy.EnforcingPolicy.{EnforcingPolicy}
@@ -17,7 +14,7 @@ use Rattle.budget.specs.Flags.{trues, is_new, defined}
 use Rattle.budget.specs.Merging.{is_merge}
 use Rattle.budget.specs.Nesting.{turn_top, key_next, entered, closing}
 use Rattle.budget.specs.Observed.{Seen, Input, event, reference}
-use Rattle.budget.specs.Model.{Model, Outcome, with_report, with_around, with_flags, no_anchors, good, on_good, and_then, counting, anchored, turning, placed, scalar_anchored, scalar_sized, scalar, enter_placed, enter_sized, enter_deep, enter, closed, leave_at, leave, alias, renewed, document_by, document, by_kind, by_input, counted}
+use Rattle.budget.specs.Model.{Model, Outcome, with_report, with_around, with_flags, no_anchors, good, on_good, and_then, counting, anchored, turning, placed, scalar_anchored, scalar_sized, scalar, enter_placed, enter_sized, enter_deep, enter, closed, leave_at, alias, renewed, document_by, by_kind, by_input, counted}
 use Rattle.budget.specs.Tallies.{one}
 use Rattle.budget.proofs.Bounds.{Bounds}
 

@@ -1,5 +1,5 @@
 -- What a run without a breach has gathered in one of its counts.
-use Rattle.std.proofs.Common.{◌≡◌, ℕ, ◌+◌, max, Bool, true, false, cond, ◌||◌, List, [], ◌∷◌, map, None, Ok, sym, refl, ap, ◌∙◌, subst, arith}
+use Rattle.std.proofs.Common.{◌≡◌, ◌+◌, max, Bool, true, false, cond, ◌||◌, List, [], ◌∷◌, map, None, Ok, sym, refl, ap, ◌∙◌, arith}
 use Rattle.budget.specs.Observed.{Input}
 use Rattle.budget.specs.Model.{Model, observed}
 use Rattle.budget.specs.Runs.{run, Moment, moments, gathered, any, since_last}

@@ -5,17 +5,17 @@ use Rattle.std.proofs.lemmas.Bool.{not-false}
 use Rattle.events.specs.declared.kinds.EventKind.{EventKind}
 use Rattle.events.specs.declared.kinds.EventKind.TheVariants.{StreamStart, StreamEnd, DocumentStart, DocumentEnd, Alias, Scalar, SequenceStart, SequenceEnd, MappingStart, MappingEnd}
 use Rattle.budget.specs.declared.limits.Budget.{Budget}
-use Rattle.budget.specs.declared.breach.BudgetBreach.TheVariants.{Events, Nodes, Depth, ScalarBytes, Aliases, Documents, MergeKeys, AliasAnchorRatio, Anchors, SequenceUnbalanced}
+use Rattle.budget.specs.declared.breach.BudgetBreach.TheVariants.{Events, Nodes, Depth, ScalarBytes, Aliases, Documents, MergeKeys, Anchors, SequenceUnbalanced}
 use Rattle.budget.specs.declared.policy.EnforcingPolicy.{EnforcingPolicy}
 use Rattle.budget.specs.declared.policy.EnforcingPolicy.TheVariants.{AllContent, PerDocument}
 use Rattle.budget.specs.declared.policy.MergeKeyPolicy.{MergeKeyPolicy}
 use Rattle.budget.specs.declared.containers.ContainerState.{ContainerState}
-use Rattle.budget.specs.Counts.{Answer, up, count_event, count_node, count_bytes, count_alias, count_document, count_merge_key, count_anchor, deepen, judged, with_anchors}
+use Rattle.budget.specs.Counts.{up, count_event, count_node, count_bytes, count_alias, count_document, count_merge_key, count_anchor, deepen, judged, with_anchors}
 use Rattle.budget.specs.Flags.{trues, is_new, defined}
 use Rattle.budget.specs.Merging.{is_merge}
 use Rattle.budget.specs.Nesting.{key_next, closing, entered}
 use Rattle.budget.specs.Observed.{Seen, Input, event, reference}
-use Rattle.budget.specs.Model.{Model, Outcome, with_report, with_flags, with_around, no_anchors, good, and_then, counting, anchored, turning, placed, scalar_anchored, scalar_sized, scalar, enter_placed, enter_sized, enter_deep, enter, closed, leave_at, alias, renewed, document_by, by_kind, by_input, counted, observed, started}
+use Rattle.budget.specs.Model.{Model, Outcome, with_report, with_flags, with_around, good, and_then, counting, anchored, turning, placed, scalar_anchored, scalar_sized, scalar, enter_placed, enter_sized, enter_deep, enter, closed, leave_at, alias, renewed, document_by, by_kind, by_input, observed, started}
 use Rattle.budget.specs.Laws.{Within, StaysWithin}
 use Rattle.budget.proofs.Exact.{ok_or_err, passed, within}
 use Rattle.budget.proofs.Marking.{none_set}

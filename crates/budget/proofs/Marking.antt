@@ -1,5 +1,5 @@
 -- The flags of the anchor numbers after an input, and how many are set.
-use Rattle.std.proofs.Common.{◌≡◌, ℕ, zero, suc, ◌+◌, ◌<◌, ◌≤◌, Bool, true, false, cond, not, ◌&&◌, ◌||◌, eqb, ◌≢◌, List, [], ◌∷◌, length, get_or, set, replicate, Ok, sym, refl, ap, ◌∙◌, subst, arith, length-set, get_or-set_other, get_or-set_same}
+use Rattle.std.proofs.Common.{◌≡◌, ℕ, zero, suc, ◌<◌, Bool, true, false, cond, not, ◌&&◌, ◌||◌, eqb, List, [], ◌∷◌, length, get_or, set, replicate, Ok, sym, refl, ap, ◌∙◌, subst, arith, length-set, get_or-set_other, get_or-set_same}
 use lib.ListN.{length-replicate}
 use Rattle.std.proofs.lemmas.Bool.{eqb-true, eqb-false}
 use Rattle.events.specs.declared.kinds.EventKind.{EventKind}
@@ -9,7 +9,7 @@ use Rattle.budget.specs.declared.policy.EnforcingPolicy.{EnforcingPolicy}
 use Rattle.budget.specs.declared.policy.EnforcingPolicy.TheVariants.{AllContent, PerDocument}
 use Rattle.budget.specs.Flags.{trues, defined}
 use Rattle.budget.specs.Observed.{Seen, Input, event, reference}
-use Rattle.budget.specs.Model.{Model, no_anchors, observed}
+use Rattle.budget.specs.Model.{Model, observed}
 use Rattle.budget.specs.Tallies.{resets, carries, number_below, one}
 use Rattle.budget.proofs.Bounds.{Bounds}
 use Rattle.budget.proofs.Exact.{calm, calm_by, evented, documented_by, counted_exact}

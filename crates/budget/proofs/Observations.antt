@@ -1,5 +1,5 @@
 -- The laws of one observation, for what a call answers and leaves.
-use Rattle.std.proofs.Common.{◌≡◌, Some, Ok, Err, sym, ap, ◌∙◌, subst}
+use Rattle.std.proofs.Common.{◌≡◌, Some, Err, sym, ap, ◌∙◌, subst}
 use Rattle.budget.specs.declared.breach.BudgetBreach.{BudgetBreach}
 use Rattle.budget.specs.declared.enforcer.BudgetEnforcer.{BudgetEnforcer}
 use Rattle.budget.specs.Counts.{Answer}
@@ -9,7 +9,7 @@ use Rattle.budget.specs.Observed.{Input}
 use Rattle.budget.specs.View.{view}
 use Rattle.budget.proofs.Adding.{observed_adds}
 use Rattle.budget.proofs.Alternating.{key_and_value_alternate}
-use Rattle.budget.proofs.Bounds.{Bounds, bounds}
+use Rattle.budget.proofs.Bounds.{bounds}
 use Rattle.budget.proofs.Keeping.{observed_within}
 use Rattle.budget.proofs.Sticks.{answered_for_ever, stuck}
 

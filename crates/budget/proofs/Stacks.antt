@@ -1,5 +1,5 @@
 -- The stack that a table and a depth stand for.
-use Rattle.std.proofs.Common.{◌≡◌, ℕ, zero, suc, ◌+◌, ◌-◌, ◌<◌, ◌≤◌, false, ◌≢◌, List, [], ◌∷◌, length, get_or, set, sym, refl, ap, ◌∙◌, arith, get_or-set_other, get_or-set_same}
+use Rattle.std.proofs.Common.{◌≡◌, ℕ, zero, suc, ◌+◌, ◌-◌, ◌<◌, ◌≤◌, false, ◌≢◌, List, ◌∷◌, length, get_or, set, sym, refl, ap, ◌∙◌, arith, get_or-set_other, get_or-set_same}
 use Rattle.budget.specs.declared.containers.ContainerState.{ContainerState}
 use Rattle.budget.specs.declared.containers.ContainerState.TheVariants.{Sequence}
 use Rattle.budget.specs.Nesting.{stack, turned, turn_top}

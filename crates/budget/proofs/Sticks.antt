@@ -1,11 +1,11 @@
 -- A breach sticks; and where there is none after a run, every answer was good.
-use Rattle.std.proofs.Common.{◌≡◌, ℕ, List, [], ◌∷◌, map, Some, None, Ok, Err, Option, sym, refl, ap, ◌∙◌, subst, arith}
+use Rattle.std.proofs.Common.{◌≡◌, ℕ, List, [], ◌∷◌, map, Some, None, Ok, Err, Option, refl, ap, ◌∙◌, arith}
 use Rattle.budget.specs.declared.breach.BudgetBreach.{BudgetBreach}
 use Rattle.budget.specs.Counts.{Answer}
 use Rattle.budget.specs.Observed.{Input}
 use Rattle.budget.specs.Model.{Model, Outcome, counted, kept, observed, sticking}
 use Rattle.budget.specs.Runs.{run, answers}
-use Rattle.budget.specs.Laws.{AnswersOnly, ABreachIsAnsweredForEver}
+use Rattle.budget.specs.Laws.{ABreachIsAnsweredForEver}
 
 -- what an enforcer with a breach does with any input
 pub stuck : (b : BudgetBreach) (i : Input) (m : Model) → m.report.breached ≡ Some b → observed i m ≡ (m, Err b)

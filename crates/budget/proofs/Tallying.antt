@@ -1,5 +1,5 @@
 -- With no breach, each count is what was observed since the counts began anew.
-use Rattle.std.proofs.Common.{◌≡◌, ℕ, ◌+◌, ◌<◌, ◌≤◌, max, Bool, true, false, cond, ◌||◌, List, [], ◌∷◌, map, length, get_or, None, Ok, sym, refl, ap, ◌∙◌, subst, arith}
+use Rattle.std.proofs.Common.{◌≡◌, ℕ, ◌+◌, ◌<◌, max, false, cond, ◌||◌, List, [], ◌∷◌, length, get_or, None, Ok, sym, refl, ap, ◌∙◌, subst}
 use lib.ListN.{length-replicate}
 use Rattle.budget.specs.declared.limits.AliasLimits.{AliasLimits}
 use Rattle.budget.specs.declared.limits.Budget.{Budget}
@@ -9,14 +9,14 @@ use Rattle.budget.specs.Counts.{with_anchors}
 use Rattle.budget.specs.Flags.{trues}
 use Rattle.budget.specs.Observed.{Input}
 use Rattle.budget.specs.Model.{Model, observed, started}
-use Rattle.budget.specs.Runs.{run, Moment, moments, gathered, any, since_last, total, highest}
+use Rattle.budget.specs.Runs.{run, Moment, moments, gathered, any, since_last, total}
 use Rattle.budget.specs.Tallies.{nodes_of, aliases_of, bytes_of, documents_of, resets, depth_of, merge_keys_of, carries, number_below}
-use Rattle.budget.specs.Laws.{Adds, since, moments_since, Counts, CountsWhatIsObserved, CountsDistinctAnchors, EndsWithTheReport}
+use Rattle.budget.specs.Laws.{Adds, since, moments_since, CountsWhatIsObserved, CountsDistinctAnchors, EndsWithTheReport}
 use Rattle.budget.proofs.Bounds.{Bounds}
 use Rattle.budget.proofs.Sticks.{clean_before, clean_answer}
 use Rattle.budget.proofs.Adding.{observed_adds}
 use Rattle.budget.proofs.Since.{gathered_map, since_map, since_none, none_pass, total_ones}
-use Rattle.budget.proofs.Gathering.{Together, sums, maxima, tests, at, Turns, gather_all, inputs_of}
+use Rattle.budget.proofs.Gathering.{Together, sums, maxima, tests, at, gather_all, inputs_of}
 use Rattle.budget.proofs.Marking.{observed_marks, none_set, none_at, number_set, number_same}
 
 -- what holds of an enforcer with bounded limits, whatever it has observed without a breach

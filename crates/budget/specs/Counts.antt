@@ -1,5 +1,5 @@
 -- The report's counts against the limits. A count stops at the largest number of 32 bits.
-use Rattle.std.specs.Prelude.{◌≡◌, ℕ, ◌+◌, ◌-◌, ◌*◌, ◌^◌, min, max, Bool, cond, ◌&&◌, ◌||◌, Some, None, Ok, Err, Option, Result, ◌==◌, nat_le, nat_lt}
+use Rattle.std.specs.Prelude.{◌≡◌, ℕ, ◌+◌, ◌-◌, ◌*◌, ◌^◌, min, max, Bool, cond, ◌&&◌, ◌||◌, None, Ok, Err, Option, Result, ◌==◌, nat_le, nat_lt}
 use Rattle.budget.specs.declared.limits.Budget.{Budget}
 use Rattle.budget.specs.declared.breach.BudgetReport.{BudgetReport}
 use Rattle.budget.specs.declared.breach.BudgetBreach.{BudgetBreach}

@@ -1,7 +1,7 @@
 -- The laws of the enforcer, over whole runs.
 use Rattle.std.specs.Prelude.{◌≡◌, ℕ, zero, suc, ◌+◌, ◌*◌, ◌<◌, ◌≤◌, max, true, cond, not, ◌⊎◌, List, [], ◌∷◌, ◌++◌, map, length, Some, None, Ok, Err}
 use Rattle.events.specs.declared.kinds.EventKind.{EventKind}
-use Rattle.events.specs.declared.kinds.EventKind.TheVariants.{Alias, Scalar, SequenceStart, SequenceEnd, MappingStart, MappingEnd}
+use Rattle.events.specs.declared.kinds.EventKind.TheVariants.{Alias, Scalar}
 use Rattle.events.specs.declared.kinds.Container.{Container}
 use Rattle.events.specs.Balance.{starts, ends}
 use Rattle.budget.specs.declared.breach.BudgetBreach.{BudgetBreach}

@@ -1,5 +1,5 @@
 -- Merge keys.
-use Rattle.std.specs.Prelude.{ℕ, Bool, true, false, ◌&&◌, ◌||◌, List, [], ◌∷◌, length, codes, ◌==◌}
+use Rattle.std.specs.Prelude.{ℕ, Bool, true, false, ◌&&◌, ◌||◌, List, length, codes, ◌==◌}
 use Rattle.std.specs.Str.{bytes_eq}
 use Rattle.events.specs.declared.kinds.ScalarStyle.{ScalarStyle}
 use Rattle.events.specs.declared.kinds.ScalarStyle.TheVariants.{Plain, SingleQuoted, DoubleQuoted, Literal, Folded}

@@ -1,5 +1,5 @@
 -- What is observed: events as plain values, and alias references.
-use Rattle.std.specs.Prelude.{ℕ, Bool, true, false, List}
+use Rattle.std.specs.Prelude.{ℕ, List}
 use Rattle.events.specs.declared.kinds.EventKind.{EventKind}
 use Rattle.events.specs.declared.kinds.ScalarStyle.{ScalarStyle}
 

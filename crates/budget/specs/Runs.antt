@@ -1,5 +1,5 @@
 -- Runs: what is observed one after the other, and what of it came since the counts last began anew.
-use Rattle.std.specs.Prelude.{ℕ, ◌+◌, max, Bool, true, false, cond, ◌||◌, List, [], ◌∷◌}
+use Rattle.std.specs.Prelude.{ℕ, ◌+◌, max, Bool, false, cond, ◌||◌, List, [], ◌∷◌}
 use Rattle.budget.specs.Counts.{Answer}
 use Rattle.budget.specs.Model.{Model, observed}
 use Rattle.budget.specs.Observed.{Input}

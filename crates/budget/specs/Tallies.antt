@@ -1,5 +1,5 @@
 -- What one input adds to the counts, where it breaches no limit.
-use Rattle.std.specs.Prelude.{ℕ, zero, suc, ◌+◌, Bool, true, false, cond, not, ◌&&◌, ◌||◌, List, [], ◌∷◌, length, ◌==◌}
+use Rattle.std.specs.Prelude.{ℕ, zero, suc, ◌+◌, Bool, true, false, cond, not, ◌&&◌, ◌||◌, length, ◌==◌}
 use Rattle.events.specs.declared.kinds.EventKind.{EventKind}
 use Rattle.events.specs.declared.kinds.EventKind.TheVariants.{DocumentStart, Alias, Scalar, SequenceStart, MappingStart}
 use Rattle.events.specs.Kinds.{kind_number}
@@ -8,8 +8,7 @@ use Rattle.budget.specs.declared.policy.EnforcingPolicy.TheVariants.{AllContent,
 use Rattle.budget.specs.Merging.{is_merge}
 use Rattle.budget.specs.Model.{Model}
 use Rattle.budget.specs.Nesting.{key_next}
-use Rattle.budget.specs.Observed.{Seen, Input, event, reference}
-use Rattle.budget.specs.Runs.{Moment}
+use Rattle.budget.specs.Observed.{Input, event, reference}
 
 abbrev pub one : Bool → ℕ
 one true = 1

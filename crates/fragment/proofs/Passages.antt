@@ -16,8 +16,7 @@ use Rattle.budget.specs.declared.breach.BudgetBreach.TheVariants.{Anchors, Depth
 use Rattle.budget.specs.declared.limits.Budget.{Budget}
 use Rattle.budget.specs.Limits.{allowed}
 use Rattle.fragment.specs.declared.answers.FragmentError.{FragmentError}
-use Rattle.fragment.specs.declared.answers.FragmentError.TheVariants.{OpenRange, ShortSlate, Unsound, CollectionBreach, SecondDocument, UnmarkedTarget}
-use Rattle.fragment.specs.declared.answers.Passage.{Passage}
+use Rattle.fragment.specs.declared.answers.FragmentError.TheVariants.{OpenRange, ShortSlate, Unsound, CollectionBreach, SecondDocument}
 use Rattle.fragment.specs.declared.collection.Collected.{Collected}
 use Rattle.fragment.specs.Collection.{cause_at, cause_if, collected, first_cause, nothing, second_document, target_unless, too_deep, too_many_bytes, too_many_events, too_many_marks, with_event}
 use Rattle.fragment.specs.PassageLaws.{IsTarget, Knotted, Means}

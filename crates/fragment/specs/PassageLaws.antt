@@ -1,5 +1,5 @@
 -- What the answer to a wanted passage means.
-use Rattle.std.specs.Prelude.{◌≡◌, ℕ, List, Ok, Err, ◌≢◌}
+use Rattle.std.specs.Prelude.{◌≡◌, ℕ, Ok, Err, ◌≢◌}
 use Rattle.events.specs.Scores.{events_of, marks_of}
 use Rattle.events.specs.Tables.{IsLast}
 use Rattle.fragment.specs.declared.answers.FragmentError.{FragmentError}

@@ -1,5 +1,5 @@
 -- What it is to unfold a run of events, and which places are reached (YAML 1.2.2, 7.1: an alias stands for the node that its anchor marks).
-use Rattle.std.specs.Prelude.{◌≡◌, ℕ, zero, suc, ◌+◌, ◌-◌, ◌<◌, ◌≤◌, List, [], ◌∷◌, ◌++◌, get_or, Some, slice_index_or}
+use Rattle.std.specs.Prelude.{◌≡◌, ℕ, zero, suc, ◌+◌, ◌-◌, ◌≤◌, List, [], ◌∷◌, ◌++◌, get_or, Some, slice_index_or}
 use Rattle.events.specs.declared.score.Event.{Event}
 use Rattle.events.specs.declared.kinds.EventKind.TheVariants.{Alias}
 use Rattle.events.specs.Scores.{kind, no_event}

@@ -1,5 +1,5 @@
 -- The unfolding of a number's range, as a function on lists.
-use Rattle.std.specs.Prelude.{ℕ, zero, suc, ◌+◌, ◌-◌, ◌^◌, min, Bool, true, false, cond, ◌&&◌, List, [], ◌∷◌, ◌++◌, map, length, Some, None, Ok, Err, Option, Result, ◌==◌, nat_lt, slice_index, slice_index_or, slice_set}
+use Rattle.std.specs.Prelude.{ℕ, zero, suc, ◌+◌, ◌-◌, Bool, true, false, cond, List, [], ◌∷◌, ◌++◌, length, Some, None, Ok, Err, Option, Result, ◌==◌, nat_lt, slice_index, slice_index_or, slice_set}
 use Rattle.events.specs.declared.score.Event.{Event}
 use Rattle.events.specs.declared.score.NodeRange.{NodeRange}
 use Rattle.events.specs.declared.kinds.EventKind.{EventKind}
@@ -9,7 +9,6 @@ use Rattle.events.specs.Nodes.{range_of}
 use Rattle.events.specs.Rules.{is_alias}
 use Rattle.budget.specs.declared.limits.Budget.{Budget}
 use Rattle.budget.specs.declared.limits.AliasLimits.{AliasLimits}
-use Rattle.budget.specs.declared.breach.BudgetBreach.{BudgetBreach}
 use Rattle.budget.specs.declared.breach.BudgetBreach.TheVariants.{Events, Aliases, ScalarBytes}
 use Rattle.budget.specs.Counts.{up}
 use Rattle.budget.specs.Model.{Model, Outcome, observed}

@@ -6,7 +6,7 @@ use Rattle.fragment.proofs.collection.collect_events.Goals as goal
 
 pub returns-in_err-take : goal.returns-in_err-take
 returns-in_err-take c =
-    let p = err_from_is_err_and c.from-residual.result c.from-residual.ensures.1 in
+    let p = err_from_is_err_and c.from_residual.result c.from_residual.ensures.1 in
     let cause = unless_err _ c.in_err-take.field-0.0 c.in_err-take.ensures.tells_the_first_cause in
     rw (p.1, p.2) (sym (ap unless (stops c.args.budget.now c.args.events.now c.loop-event.event-index c.loop-event.counted c.loop-event-test.true c.loop-event.invariant c.in_err-take.field-0.0 cause)))
 

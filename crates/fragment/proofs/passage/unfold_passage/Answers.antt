@@ -1,5 +1,4 @@
-use Rattle.std.proofs.Common.{◌≡◌, ◌≤◌, length, sym, ap, ◌∙◌, arith}
-use Rattle.budget.specs.declared.policy.EnforcingPolicy.{EnforcingPolicy}
+use Rattle.std.proofs.Common.{sym, ap, ◌∙◌, arith}
 use Rattle.events.specs.Checked.{told}
 use Rattle.events.specs.Scores.{lists}
 use Rattle.fragment.specs.Laws.{LawsOfUnfolding}

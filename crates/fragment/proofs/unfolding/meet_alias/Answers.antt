@@ -9,7 +9,7 @@ use Rattle.fragment.proofs.unfolding.meet_alias.Goals as goal
 
 pub returns-in_err-refer : goal.returns-in_err-refer
 returns-in_err-refer c t =
-    let p = err_from_is_err_and c.from-residual-in_err-refer.result c.from-residual-in_err-refer.ensures.1 in
+    let p = err_from_is_err_and c.from_residual-in_err-refer.result c.from_residual-in_err-refer.ensures.1 in
     let w : Work = counting t c.args.tally.now (view c.args.enforcer.now) in
     let v : Work = counting t c.charge_alias.new.self (view c.args.enforcer.now) in
     let u : Work = counting t c.charge_alias.new.self (view c.refer.new.enforcer) in
@@ -17,7 +17,7 @@ returns-in_err-refer c t =
 
 pub returns-in_err-judge_aliases : goal.returns-in_err-judge_aliases
 returns-in_err-judge_aliases c t =
-    let p = err_from_is_err_and c.from-residual-in_err-judge_aliases.result c.from-residual-in_err-judge_aliases.ensures.1 in
+    let p = err_from_is_err_and c.from_residual-in_err-judge_aliases.result c.from_residual-in_err-judge_aliases.ensures.1 in
     let w : Work = counting t c.args.tally.now (view c.args.enforcer.now) in
     let v : Work = counting t c.charge_alias.new.self (view c.args.enforcer.now) in
     let u : Work = counting t c.charge_alias.new.self (view c.refer.new.enforcer) in
@@ -25,7 +25,7 @@ returns-in_err-judge_aliases c t =
 
 pub returns-in_err-count_expansion : goal.returns-in_err-count_expansion
 returns-in_err-count_expansion c t =
-    let p = err_from_is_err_and c.from-residual-in_err-count_expansion.result c.from-residual-in_err-count_expansion.ensures.1 in
+    let p = err_from_is_err_and c.from_residual-in_err-count_expansion.result c.from_residual-in_err-count_expansion.ensures.1 in
     let w : Work = counting t c.args.tally.now (view c.args.enforcer.now) in
     let v : Work = counting t c.charge_alias.new.self (view c.args.enforcer.now) in
     let u : Work = counting t c.charge_alias.new.self (view c.refer.new.enforcer) in

@@ -1,4 +1,4 @@
-use Rattle.std.proofs.Common.{◌≡◌, ℕ, ◌+◌, ◌<◌, ◌≤◌, Bool, true, false, cond, not, eqb, length, get_or, set, sym, ap, ◌∙◌, subst, arith, rules}
+use Rattle.std.proofs.Common.{◌+◌, ◌<◌, ◌≤◌, true, false, not, eqb, length, get_or, set, sym, ap, ◌∙◌, arith, rules}
 use Rattle.std.proofs.lemmas.List.{set-get_or}
 use Rattle.std.proofs.lemmas.Bool.{ne_eqb, cond-false}
 use Rattle.budget.proofs.Trues.{trues_le, trues_set}
@@ -34,4 +34,4 @@ invariant_of-self c =
     let bs = c.args.self.now.flags in
     let k : c.args.anchor.number < length bs = search rules in
     let e = trues_set bs c.args.anchor.number k c.if-self-place.false in
-    (ap (λ x. x + 1) c.args.self.now.counted ∙ sym e, tt)
+    record { counted = ap (λ x. x + 1) c.args.self.now.counted ∙ sym e }

@@ -1,4 +1,4 @@
-use Rattle.std.proofs.Common.{sym, refl, rules}
+use Rattle.std.proofs.Common.{sym, refl}
 use Rattle.budget.proofs.Stacks.{length_stack}
 use Rattle.budget.proofs.containers.OpenContainers.depth.Goals as goal
 

@@ -1,4 +1,4 @@
-use Rattle.std.proofs.Common.{◌≡◌, sym, ap, ◌∙◌, arith}
+use Rattle.std.proofs.Common.{sym, ap, ◌∙◌, arith}
 use Rattle.budget.specs.Nesting.{key_next}
 use Rattle.budget.proofs.Stacks.{stack_more}
 use Rattle.budget.proofs.containers.OpenContainers.key_next.Goals as goal

@@ -1,4 +1,4 @@
-use Rattle.std.proofs.Common.{◌≡◌, ◌<◌, sym, ap, arith, rules}
+use Rattle.std.proofs.Common.{sym, ap, arith}
 use Rattle.budget.specs.Nesting.{head_of, tail_of}
 use Rattle.budget.proofs.Stacks.{stack_more}
 use Rattle.budget.proofs.containers.OpenContainers.pop.Goals as goal

@@ -1,4 +1,4 @@
-use Rattle.std.proofs.Common.{◌≡◌, ◌-◌, ◌<◌, ◌≤◌, ◌∷◌, length, sym, refl, ap, ◌∙◌, arith, rules}
+use Rattle.std.proofs.Common.{◌-◌, ◌≤◌, ◌∷◌, length, sym, refl, ap, ◌∙◌, arith, rules}
 use Rattle.budget.specs.Nesting.{turn_top, top_is_value, stack}
 use Rattle.budget.proofs.Stacks.{stack_more, stack_top}
 use Rattle.budget.proofs.containers.OpenContainers.turn_top.Goals as goal

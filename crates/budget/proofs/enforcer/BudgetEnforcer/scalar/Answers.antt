@@ -1,4 +1,4 @@
-use Rattle.std.proofs.Common.{◌≡◌, ◌+◌, length, subst}
+use Rattle.std.proofs.Common.{◌+◌, length, subst}
 use Rattle.budget.specs.Counts.{Stepped, count_node, count_bytes}
 use Rattle.budget.specs.Merging.{is_merge}
 use Rattle.budget.specs.Model.{with_report, counting, anchored, scalar_sized, scalar_anchored, placed}

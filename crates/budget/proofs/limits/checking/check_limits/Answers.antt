@@ -6,7 +6,7 @@ use Rattle.budget.proofs.limits.checking.check_limits.Goals as goal
 pub invariant_of-result : goal.invariant_of-result
 invariant_of-result c =
     let none : first_too_large c.args.budget c.args.alias_limits ≡ None = sym c.first_too_large.ensures ∙ c.in-None.is in
-    (ap is_none none, ((bounds c.args.budget c.args.alias_limits (ap is_none none)).depth, tt))
+    record { none_too_large = ap is_none none; shallow = (bounds c.args.budget c.args.alias_limits (ap is_none none)).depth }
 
 pub returns-in-Some : goal.returns-in-Some
 returns-in-Some c = record { tells_the_first_too_large_or_checks_all = ap (λ o. judgement o c.args.budget c.args.alias_limits) (sym c.in-Some.is ∙ c.first_too_large.ensures) }

@@ -1,4 +1,4 @@
-use Rattle.std.proofs.Common.{◌≡◌, sym, ◌∙◌}
+use Rattle.std.proofs.Common.{sym, ◌∙◌}
 use Rattle.budget.specs.declared.limits.LimitField.TheVariants.{MaxReaderInputBytes}
 use Rattle.budget.specs.Limits.{too_large}
 use Rattle.budget.proofs.Bounds.{first_is_here, first_is_later, none_is_left}
