@@ -1,6 +1,6 @@
 -- Bytes are accepted with some entries exactly if they are the packing of these entries, and the entries can be packed. A written entry reads back, and read bytes write back.
 use Rattle.std.proofs.Common.{◌≡◌, ℕ, zero, suc, ◌+◌, ◌<◌, ◌≤◌, true, false, not, ltb, List, [], ◌∷◌, ◌++◌, length, take, drop, Some, None, Ok, Err, codes, Option, Result, sym, refl, ap, ◌∙◌, subst, append_assoc, arith, length-append, length-drop}
-use Rattle.std.specs.List.{AllByRecursion as All}
+use Rattle.std.specs.List.{AllByRecursion}
 use Rattle.std.specs.Str.{bytes_eq}
 use Rattle.std.proofs.ByRecursion.{All-drop, All-take}
 use Rattle.std.proofs.lemmas.List.{take_at, drop_at, drop-drop, take-append-drop, length-take-le}
@@ -72,7 +72,7 @@ known_before (x ∷ before) es e h =
     let other = known_in before es e x.path (not-true _ parts.0) in
     or_from (bytes_eq x.path e.path) (known before e.path) (same_sym x.path e.path ∙ other) (known_before before es e parts.1)
 
-entries_back : (es before : List Entry) (p : ℕ) → All Fits es → numbered es ≡ true → distinct (before ++ es) ≡ true → (wrong_from (length es) before p (write_entries es) ≡ None) × (walk (length es) (write_entries es) ≡ es)
+entries_back : (es before : List Entry) (p : ℕ) → AllByRecursion Fits es → numbered es ≡ true → distinct (before ++ es) ≡ true → (wrong_from (length es) before p (write_entries es) ≡ None) × (walk (length es) (write_entries es) ≡ es)
 entries_back [] before p fits a b = (refl, refl)
 entries_back (e ∷ es) before p fits a b =
     let rest = write_entries es in
@@ -148,7 +148,7 @@ entry_fits before xs b good =
       entry_stands = refl;
     }
 
-entries_forth : (n : ℕ) (before : List Entry) (p : ℕ) (xs : List ℕ) → Bytes xs → wrong_from n before p xs ≡ None → (xs ≡ write_entries (walk n xs)) × All Fits (walk n xs)
+entries_forth : (n : ℕ) (before : List Entry) (p : ℕ) (xs : List ℕ) → Bytes xs → wrong_from n before p xs ≡ None → (xs ≡ write_entries (walk n xs)) × AllByRecursion Fits (walk n xs)
 entries_forth zero before p xs b h = (none_left before p xs h, tt)
 entries_forth (suc n) before p xs b h =
     let none = none_from n before p xs h in

@@ -1,6 +1,6 @@
 -- What packed bytes are, without reading them: the packing of a list that can be packed.
 use Rattle.std.specs.Prelude.{◌≡◌, ℕ, ◌^◌, ◌<◌, ◌≤◌, true, List, length, Ok, Result}
-use Rattle.std.specs.List.{AllByRecursion as All}
+use Rattle.std.specs.List.{AllByRecursion}
 use Rattle.catalogue.specs.Entries.{Entry, Lawful}
 use Rattle.catalogue.specs.Laws.{Exactly}
 use Rattle.catalogue.specs.declared.answers.CatalogueError.{CatalogueError}
@@ -8,7 +8,7 @@ use Rattle.binder.specs.Packing.{packed}
 
 -- each number is a byte
 abbrev pub Bytes : List ℕ → Type 0
-Bytes xs = All (λ b. b < 256) xs
+Bytes xs = AllByRecursion (λ b. b < 256) xs
 
 -- an entry that stands, and whose fields fit their widths
 pub record Fits (e : Entry) : Type 0 where
@@ -26,7 +26,7 @@ pub record Fits (e : Entry) : Type 0 where
 -- at most 256 entries with distinct paths and numbers that are not 0, each of which fits
 pub record Packable (es : List Entry) : Type 0 where
   pub lawful : Lawful es
-  pub each_fits : All Fits es
+  pub each_fits : AllByRecursion Fits es
 
 -- binding the bytes bs, with this answer and these entries afterwards: it is accepted with the entries es exactly if bs is the packing of es, and es can be packed
 abbrev pub AcceptedExactly : List ℕ → Result (Unit {0}) CatalogueError → List Entry → Type 0
