@@ -3,8 +3,8 @@ ghost use Rattle.std.specs.Prelude.{◌≡◌};
 ghost use Rattle.budget.specs.Counts.{Stepped};
 ghost use Rattle.budget.specs.Laws.{ABreachIsAnsweredForEver, ABreachTellsAPassedLimit, CountsDistinctAnchors, CountsExactly, CountsWhatIsObserved, EndsWithTheReport, KeyAndValueAlternate, StaysWithin, Within};
 ghost use Rattle.budget.specs.Model.{counted, kept, started};
-ghost use Rattle.budget.specs.Model.{observed as observedAs};
-ghost use Rattle.budget.specs.Observed.{event as eventInput, reference};
+ghost use Rattle.budget.specs.Model.{observed as observed_as};
+ghost use Rattle.budget.specs.Observed.{event as event_input, reference};
 ghost use Rattle.budget.specs.Seeing.{seen};
 ghost use Rattle.budget.specs.View.{view};
 
@@ -55,10 +55,10 @@ impl BudgetEnforcer {
 
     /// Counts an event, or answers the breach that was met before.
     pub fn observe(&mut self, event: ObservedEvent) -> Result<(), BudgetBreach>
-        ensures answers_as_defined { result ≡ (observedAs (eventInput (seen event.entry)) (view self.old)).1 }
-        ensures leaves_as_defined { view self.new ≡ (observedAs (eventInput (seen event.entry)) (view self.old)).0 }
+        ensures answers_as_defined { result ≡ (observed_as (event_input (seen event.entry)) (view self.old)).1 }
+        ensures leaves_as_defined { view self.new ≡ (observed_as (event_input (seen event.entry)) (view self.old)).0 }
         ensures a_breach_is_answered_for_ever { ABreachIsAnsweredForEver result (view self.new) }
-        ensures a_good_answer_counts_exactly { CountsExactly (eventInput (seen event.entry)) result (view self.old) (view self.new) }
+        ensures a_good_answer_counts_exactly { CountsExactly (event_input (seen event.entry)) result (view self.old) (view self.new) }
         ensures a_good_answer_stays_within_the_limits { StaysWithin result (view self.old) (view self.new) }
         ensures key_and_value_alternate { KeyAndValueAlternate (view self.old) }
     {
@@ -72,8 +72,8 @@ impl BudgetEnforcer {
 
     /// Counts an alias for which the events of its node are read in its place, or answers the breach that was met before.
     pub fn observe_alias_reference(&mut self) -> Result<(), BudgetBreach>
-        ensures answers_as_defined { result ≡ (observedAs reference (view self.old)).1 }
-        ensures leaves_as_defined { view self.new ≡ (observedAs reference (view self.old)).0 }
+        ensures answers_as_defined { result ≡ (observed_as reference (view self.old)).1 }
+        ensures leaves_as_defined { view self.new ≡ (observed_as reference (view self.old)).0 }
         ensures a_breach_is_answered_for_ever { ABreachIsAnsweredForEver result (view self.new) }
         ensures a_good_answer_counts_exactly { CountsExactly reference result (view self.old) (view self.new) }
         ensures a_good_answer_stays_within_the_limits { StaysWithin result (view self.old) (view self.new) }
@@ -87,7 +87,7 @@ impl BudgetEnforcer {
     }
 
     fn count(&mut self, event: ObservedEvent) -> Result<(), BudgetBreach>
-        ensures { Stepped (view self.new) result (counted (eventInput (seen event.entry)) (view self.old)) }
+        ensures { Stepped (view self.new) result (counted (event_input (seen event.entry)) (view self.old)) }
     {
         self.report.count_event(&self.limits.budget)?;
         self.step(event)

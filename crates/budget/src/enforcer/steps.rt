@@ -2,10 +2,10 @@
 ghost use Rattle.budget.specs.Counts.{Stepped};
 ghost use Rattle.budget.specs.Model.{anchored, by_kind, placed};
 ghost use Rattle.budget.specs.Model.{alias as alias_step};
-ghost use Rattle.budget.specs.Model.{document as documentStep};
-ghost use Rattle.budget.specs.Model.{enter as enterStep};
-ghost use Rattle.budget.specs.Model.{leave as leaveStep};
-ghost use Rattle.budget.specs.Model.{scalar as scalarStep};
+ghost use Rattle.budget.specs.Model.{document as document_step};
+ghost use Rattle.budget.specs.Model.{enter as enter_step};
+ghost use Rattle.budget.specs.Model.{leave as leave_step};
+ghost use Rattle.budget.specs.Model.{scalar as scalar_step};
 ghost use Rattle.budget.specs.Seeing.{seen};
 ghost use Rattle.budget.specs.View.{view};
 
@@ -54,7 +54,7 @@ impl BudgetEnforcer {
     }
 
     fn scalar(&mut self, event: ObservedEvent) -> Result<(), BudgetBreach>
-        ensures { Stepped (view self.new) result (scalarStep (seen event.entry) (view self.old)) }
+        ensures { Stepped (view self.new) result (scalar_step (seen event.entry) (view self.old)) }
     {
         let merge = self.merge_keys.counts(event);
         self.report.count_node(&self.limits.budget)?;
@@ -65,7 +65,7 @@ impl BudgetEnforcer {
     }
 
     fn enter(&mut self, event: ObservedEvent) -> Result<(), BudgetBreach>
-        ensures { Stepped (view self.new) result (enterStep (seen event.entry) (view self.old)) }
+        ensures { Stepped (view self.new) result (enter_step (seen event.entry) (view self.old)) }
     {
         self.report.count_node(&self.limits.budget)?;
         let depth = self.containers.depth() + 1;
@@ -77,7 +77,7 @@ impl BudgetEnforcer {
     }
 
     fn leave(&mut self, kind: EventKind) -> Result<(), BudgetBreach>
-        ensures { Stepped (view self.new) result (leaveStep kind (view self.old)) }
+        ensures { Stepped (view self.new) result (leave_step kind (view self.old)) }
     {
         let Some(top) = self.containers.pop() else {
             return Err(BudgetBreach::SequenceUnbalanced);
@@ -103,7 +103,7 @@ impl BudgetEnforcer {
     }
 
     fn document(&mut self) -> Result<(), BudgetBreach>
-        ensures { Stepped (view self.new) result (documentStep (view self.old)) }
+        ensures { Stepped (view self.new) result (document_step (view self.old)) }
     {
         match self.policy {
             EnforcingPolicy::AllContent => self.report.count_document(&self.limits.budget),
