@@ -1,22 +1,12 @@
 //! The inspection of a score: its size, its marks, its soundness and its inserts.
+use crate::refusals::rule_words;
 use crate::shown::Shown;
-use events::kinds::{EventKind, Rule};
+use events::kinds::EventKind;
 use events::score::{Event, Mark, Piece, Stock};
 use events::sound::check;
 use std::fmt;
 use tags::answers::{IncludeSpec, TagError};
 use tags::insert;
-
-/// What a broken rule says.
-fn rule_words(rule: Rule) -> &'static str {
-    match rule {
-        Rule::Sizes =>
-            "a size is passed, a run lies outside its list, or a kind or style is unknown",
-        Rule::Nesting => "sequences and mappings do not pair and nest",
-        Rule::Numbering => "anchor numbers are not 1, 2, .. in order",
-        Rule::Aliases => "an alias names no anchor before it",
-    }
-}
 
 /// What a refused insert lacks.
 fn refusal_words(error: TagError) -> &'static str {

@@ -1,19 +1,27 @@
 //! The program `partbook`: inspects the book of a choir before it is set.
 #![tactic(auto)]
 
+mod catalogues;
 mod command;
 mod inspect;
 mod load;
+mod options;
+mod refusals;
 mod report;
 mod shown;
 mod trouble;
+mod unfold;
 
-use command::{Command, USAGE, command_of};
+use catalogues::shelf_of;
+use command::{Command, USAGE, UnfoldCall, command_of};
 use load::load;
+use options::limits_of;
 use report::write_report;
 use std::env;
+use std::io::Write;
 use std::process::ExitCode;
 use trouble::Trouble;
+use unfold::{Wanted, unfold};
 
 // The words of the call behind the program's name.
 fn call_words(rt: &HostRuntime) -> Result<Vec<String>, Trouble> {
@@ -32,6 +40,23 @@ fn inspect_book(rt: &HostRuntime, folder: &str) -> Result<(), Trouble> {
     Ok(())
 }
 
+fn unfold_call(rt: &HostRuntime, call: UnfoldCall<'_>) -> Result<(), Trouble> {
+    let loaded = load(rt, call.book)?;
+    let shelf = shelf_of(&loaded)?;
+    let limits = limits_of(rt, call.options)?;
+    let wanted = Wanted {
+        path: call.path.as_bytes(),
+        anchor: call.anchor.as_bytes(),
+    };
+    let printed = unfold(rt.alloc(), &shelf, &loaded, limits, wanted)?;
+    rt.stdout().write_all(printed.text.as_slice())?;
+    let events = printed.passage.events;
+    let aliases = printed.passage.aliases;
+    let replayed = printed.passage.replayed;
+    eprintln!(rt; "{events} events, {aliases} aliases replaced, {replayed} events replayed")?;
+    Ok(())
+}
+
 fn run(rt: &HostRuntime) -> Result<(), Trouble> {
     let words = call_words(rt)?;
     match command_of(words.as_slice()) {
@@ -40,6 +65,7 @@ fn run(rt: &HostRuntime) -> Result<(), Trouble> {
             Ok(())
         }
         Command::Inspect(folder) => inspect_book(rt, folder),
+        Command::Unfold(call) => unfold_call(rt, call),
         Command::Wrong => Err(Trouble::Usage),
     }
 }

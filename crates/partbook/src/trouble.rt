@@ -1,6 +1,8 @@
 //! Why the program could not do what it was asked.
+use crate::refusals::Refused;
 use book::faults::BookError;
 use notation::fault::TextError;
+use notation::line::PrintError;
 use std::alloc::{AllocError, AllocFailed};
 use std::{fmt, io};
 
@@ -16,6 +18,12 @@ pub enum Trouble {
     Name(String),
     /// A line of a score.
     Score(String, TextError),
+    /// Something is refused.
+    Refused(Refused),
+    /// An option that says nothing.
+    Option(String),
+    /// An event that no line of event notation stands for.
+    Unprintable,
     /// Arguments could not be read, or the output not be written.
     Io(io::Error),
     OutOfMemory,
@@ -30,6 +38,15 @@ impl From<AllocError> for Trouble {
 impl<T: Drop> From<AllocFailed<T>> for Trouble {
     fn from(_e: AllocFailed<T>) -> Trouble {
         Trouble::OutOfMemory
+    }
+}
+
+impl From<PrintError> for Trouble {
+    fn from(e: PrintError) -> Trouble {
+        match e {
+            PrintError::Unprintable => Trouble::Unprintable,
+            PrintError::OutOfMemory => Trouble::OutOfMemory,
+        }
     }
 }
 
@@ -54,6 +71,12 @@ impl fmt::Display for Trouble {
             Trouble::Book(path, error) => write!(f, "partbook: {path}: {error}\n"),
             Trouble::Name(path) => write!(f, "partbook: {path}: the name of a file is not UTF-8\n"),
             Trouble::Score(path, error) => write!(f, "partbook: {path}: {error}\n"),
+            Trouble::Refused(refused) => write!(f, "partbook: {refused}\n"),
+            Trouble::Option(word) => write!(
+                f,
+                "partbook: {word}: write NAME=NUMBER, with the name of a limit\n"
+            ),
+            Trouble::Unprintable => f.write_str("partbook: an event cannot be printed\n"),
             Trouble::Io(error) => write!(f, "partbook: {error}\n"),
             Trouble::OutOfMemory => f.write_str("partbook: out of memory\n"),
         }
