@@ -1,6 +1,6 @@
 //! The catalogue of a book: its scores on a shelf.
 use crate::load::Loaded;
-use crate::refusals::Refused;
+use crate::reasons::Refused;
 use crate::trouble::Trouble;
 use book::lines::Withdrawal;
 use catalogue::Catalogue;

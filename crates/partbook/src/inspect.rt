@@ -1,5 +1,5 @@
 //! The inspection of a score: its size, its marks, its soundness and its inserts.
-use crate::refusals::rule_words;
+use crate::reasons::rule_words;
 use crate::shown::Shown;
 use events::kinds::EventKind;
 use events::score::{Event, Mark, Piece, Stock};

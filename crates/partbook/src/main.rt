@@ -6,7 +6,7 @@ mod command;
 mod inspect;
 mod load;
 mod options;
-mod refusals;
+mod reasons;
 mod report;
 mod shown;
 mod trouble;

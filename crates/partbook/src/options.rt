@@ -1,5 +1,5 @@
 //! The options of a call.
-use crate::refusals::Refused;
+use crate::reasons::Refused;
 use crate::trouble::Trouble;
 use budget::limits::{CheckedLimits, check_limits};
 use settings::{Limits, read_limit, standard_limits};

@@ -1,5 +1,5 @@
 //! Why the program could not do what it was asked.
-use crate::refusals::Refused;
+use crate::reasons::Refused;
 use book::faults::BookError;
 use notation::fault::TextError;
 use notation::line::PrintError;

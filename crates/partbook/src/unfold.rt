@@ -1,6 +1,6 @@
 //! A passage of a score, unfolded and printed.
 use crate::load::Loaded;
-use crate::refusals::Refused;
+use crate::reasons::Refused;
 use crate::trouble::Trouble;
 use budget::enforcer::BudgetEnforcer;
 use budget::limits::CheckedLimits;
