@@ -33,11 +33,11 @@ none_is bytes name ms None f g = refl
 none_is bytes name ms (Some k) f g = absurd (both_ways _ (g k f.least f.most) f.named)
 
 module _ (b : Budget) (l : Lists) (p : Piece) (name : List ℕ) where
-  abbrev tooMany : FragmentError
-  tooMany = CollectionBreach (Anchors (b.max_anchors + 1))
+  abbrev too_many : FragmentError
+  too_many = CollectionBreach (Anchors (b.max_anchors + 1))
 
   abbrev answer : Bool → Option FragmentError → Option ℕ → Result ℕ FragmentError
-  answer t o m = target_unless (or_else (cause_if t tooMany) o) m
+  answer t o m = target_unless (or_else (cause_if t too_many) o) m
 
   within : length (marks_of l p) ≤ b.max_anchors → first_cause b nothing (events_of l p) ≡ None → WithinTheBudget b (marks_of l p) (events_of l p)
   within few q =

@@ -131,8 +131,8 @@ whole_tutti = accepted 11 5 9 (9 ∷ 4 ∷ 5 ∷ 5 ∷ 7 ∷ 4 ∷ 5 ∷ 5 ∷ 7
 
 -- the unfolding of a number, on an empty tape, with an enforcer that has observed nothing
 module _ (p : EnforcingPolicy) (k : MergeKeyPolicy) where
-  abbrev pub unfolding-of : Piece → ℕ → AliasLimits → Told
-  unfolding-of piece n l = told (unfolded (score piece l) n [] none (started standard_budget p k))
+  abbrev pub unfolding_of : Piece → ℕ → AliasLimits → Told
+  unfolding_of piece n l = told (unfolded (score piece l) n [] none (started standard_budget p k))
 
   pub record Examples : Type 0 where
     pub gloria_is_sound : sound stock gloria ≡ true
@@ -141,19 +141,19 @@ module _ (p : EnforcingPolicy) (k : MergeKeyPolicy) where
     pub tutti_is_named : last_named bytes tutti (marks_of stock gloria) ≡ Some 3
     pub loop_is_named : last_named bytes loop (marks_of stock gloria) ≡ Some 4
     pub bells_is_not : last_named bytes bells (marks_of stock gloria) ≡ None
-    pub c_unfolds : unfolding-of gloria 2 standard_alias_limits ≡ accepted 1 0 0 (5 ∷ [])
-    pub tutti_unfolds : unfolding-of gloria 3 standard_alias_limits ≡ whole_tutti
-    pub loop_is_open : unfolding-of gloria 4 standard_alias_limits ≡ refusal (OpenRange 4) 0 0
+    pub c_unfolds : unfolding_of gloria 2 standard_alias_limits ≡ accepted 1 0 0 (5 ∷ [])
+    pub tutti_unfolds : unfolding_of gloria 3 standard_alias_limits ≡ whole_tutti
+    pub loop_is_open : unfolding_of gloria 4 standard_alias_limits ≡ refusal (OpenRange 4) 0 0
     pub loop_is_a_knot : Knot (events_of stock gloria) 4
-    pub one_deep : unfolding-of gloria 3 (stacking 1) ≡ refusal (ReplayDepth 2) 2 2
-    pub two_deep : unfolding-of gloria 3 (stacking 2) ≡ whole_tutti
-    pub eight_replayed : unfolding-of gloria 3 (replaying 8) ≡ refusal (ReplayedTotal 9) 5 9
-    pub nine_replayed : unfolding-of gloria 3 (replaying 9) ≡ whole_tutti
-    pub twice_expanded : unfolding-of gloria 3 (expanding 2) ≡ refusal (Expansions 3) 5 8
-    pub thrice_expanded : unfolding-of gloria 3 (expanding 3) ≡ whole_tutti
+    pub one_deep : unfolding_of gloria 3 (stacking 1) ≡ refusal (ReplayDepth 2) 2 2
+    pub two_deep : unfolding_of gloria 3 (stacking 2) ≡ whole_tutti
+    pub eight_replayed : unfolding_of gloria 3 (replaying 8) ≡ refusal (ReplayedTotal 9) 5 9
+    pub nine_replayed : unfolding_of gloria 3 (replaying 9) ≡ whole_tutti
+    pub twice_expanded : unfolding_of gloria 3 (expanding 2) ≡ refusal (Expansions 3) 5 8
+    pub thrice_expanded : unfolding_of gloria 3 (expanding 3) ≡ whole_tutti
     pub two_bells_is_sound : sound stock two_bells ≡ true
     pub the_last_bells : last_named bytes bells (marks_of stock two_bells) ≡ Some 2
-    pub bells_unfolds : unfolding-of two_bells 2 standard_alias_limits ≡ accepted 1 0 0 (26 ∷ [])
+    pub bells_unfolds : unfolding_of two_bells 2 standard_alias_limits ≡ accepted 1 0 0 (26 ∷ [])
 
 -- under either policy of counting and any of merge keys
 abbrev pub ComputedPassages : Type 0

@@ -34,8 +34,8 @@ pub refusing_exit : {X Y : Type 0} (r : Result X Y) (P : Y → Type 0) (y : Y) �
 refusing_exit r P y h k = let p = err_from_is_err_and r h in subst (λ q. refusing q P) (sym p.1) (subst P (sym p.2) k)
 
 -- a line that could not be read is its own cause
-module _ (firstMark firstEvent : ℕ) (line : List ℕ) (b : StockBuilder) where
-  unread : (e : LineError) → line_of line ≡ Err e → LineCause firstMark firstEvent line b (fault_of e)
+module _ (first_mark first_event : ℕ) (line : List ℕ) (b : StockBuilder) where
+  unread : (e : LineError) → line_of line ≡ Err e → LineCause first_mark first_event line b (fault_of e)
   unread LineBreak h = h
   unread UnknownOpener h = h
   unread EmptyName h = h
@@ -47,12 +47,12 @@ module _ (firstMark firstEvent : ℕ) (line : List ℕ) (b : StockBuilder) where
   unread TrailingText h = h
   unread line_memory h = tt
 
-  pub unread_cause : (e : LineError) → (e ≡ line_memory) ⊎ (line_of line ≡ Err e) → LineCause firstMark firstEvent line b (fault_of e)
-  unread_cause e (inl h) = subst (λ d. LineCause firstMark firstEvent line b (fault_of d)) (sym h) tt
+  pub unread_cause : (e : LineError) → (e ≡ line_memory) ⊎ (line_of line ≡ Err e) → LineCause first_mark first_event line b (fault_of e)
+  unread_cause e (inl h) = subst (λ d. LineCause first_mark first_event line b (fault_of d)) (sym h) tt
   unread_cause e (inr h) = unread e h
 
   -- what a line that reads is refused for
-  pub read_cause : (l : Said) (f : TextFault) → line_of line ≡ Ok l → ForLists (AliasUnknown firstMark l b) (BytesExceeded (vec_len b.bytes) (length (added l))) (MarkExceeds firstMark l b) (EventsFull firstEvent (vec_len b.events)) f → LineCause firstMark firstEvent line b f
+  pub read_cause : (l : Said) (f : TextFault) → line_of line ≡ Ok l → ForLists (AliasUnknown first_mark l b) (BytesExceeded (vec_len b.bytes) (length (added l))) (MarkExceeds first_mark l b) (EventsFull first_event (vec_len b.events)) f → LineCause first_mark first_event line b f
   read_cause l f r h =
       caused_weaker f (λ e k. absurd k) (λ k. record { says = l; read = r; holds = k }) (λ k. record { says = l; read = r; holds = k }) (λ k. record { says = l; read = r; holds = k }) (λ k. record { says = l; read = r; holds = k }) h
 

@@ -78,12 +78,12 @@ pub record Reads (line : List ℕ) (P : Said → Type 0) : Type 0 where
 
 -- why a line is refused at these lists, in a score whose marks and events begin at these places
 abbrev pub LineCause : ℕ → ℕ → List ℕ → StockBuilder → TextFault → Type 0
-LineCause firstMark firstEvent line b =
+LineCause first_mark first_event line b =
     Caused (λ e. line_of line ≡ Err e)
-    (Reads line (λ l. AliasUnknown firstMark l b))
+    (Reads line (λ l. AliasUnknown first_mark l b))
     (Reads line (λ l. BytesExceeded (vec_len b.bytes) (length (added l))))
-    (Reads line (λ l. MarkExceeds firstMark l b))
-    (Reads line (λ l. EventsFull firstEvent (vec_len b.events)))
+    (Reads line (λ l. MarkExceeds first_mark l b))
+    (Reads line (λ l. EventsFull first_event (vec_len b.events)))
 
 -- how many line feeds a text has
 abbrev pub line_feeds : List ℕ → ℕ
@@ -95,13 +95,13 @@ abbrev pub line_at : List ℕ → ℕ → List ℕ
 line_at text i = take (place_of 10 (drop i text)) (drop i text)
 
 -- every line before a place was read, the line that begins there is refused, and the error has its number, counted from 1
-pub record Stopped (firstMark firstEvent : ℕ) (text : List ℕ) (a : StockBuilder) (e : TextError) : Type 0 where
+pub record Stopped (first_mark first_event : ℕ) (text : List ℕ) (a : StockBuilder) (e : TextError) : Type 0 where
   pub place : ℕ
   pub inside : place < length text
   pub number : e.line ≡ line_feeds (take place text) + 1
   pub lists : StockBuilder
-  pub reached : Reached firstMark text a place lists
-  pub cause : LineCause firstMark firstEvent (line_at text place) lists e.fault
+  pub reached : Reached first_mark text a place lists
+  pub cause : LineCause first_mark first_event (line_at text place) lists e.fault
 
 -- so, in a text without the line feeds at its end
 pub record StoppedBefore (text : List ℕ) (a : StockBuilder) (e : TextError) : Type 0 where

@@ -23,9 +23,9 @@ pub record Grown (a b : StockBuilder) : Type 0 where
   pub events : Grows (vec_items a.events) (vec_items b.events)
 
 -- a score has no more marks and events than a piece may have, where the score's begin at these places
-pub record Counted (firstMark firstEvent : ℕ) (b : StockBuilder) : Type 0 where
-  pub marks : vec_len b.marks - firstMark ≤ 256
-  pub events : vec_len b.events - firstEvent ≤ 8192
+pub record Counted (first_mark first_event : ℕ) (b : StockBuilder) : Type 0 where
+  pub marks : vec_len b.marks - first_mark ≤ 256
+  pub events : vec_len b.events - first_event ≤ 8192
 
 -- a text stands in the bytes, as a run of them
 pub record Holds (bytes : List ℕ) (run : Run) (text : List ℕ) : Type 0 where
