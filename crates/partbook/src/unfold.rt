@@ -14,7 +14,7 @@ use fragment::passage::unfold_passage;
 use fragment::tape::Tape;
 use notation::line::Line;
 use notation::printing::print_line;
-use std::alloc::{AllocError, Global};
+use std::alloc::Global;
 
 /// What is to be unfolded: the path of a score, and the anchor of the passage in it.
 #[derive(Clone, Copy)]
@@ -36,11 +36,11 @@ fn piece_of<C: Catalogue>(catalogue: &C, path: &[u8]) -> Result<Piece, Trouble> 
     }
 }
 
-// The bytes of a run, none where it lies outside.
-fn bytes_of(heap: Global, run: Option<&[u8]>) -> Result<Vec<u8>, AllocError> {
+// The bytes of a run that lies inside the stock.
+fn bytes_of(heap: Global, run: Option<&[u8]>) -> Result<Vec<u8>, Trouble> {
     match run {
-        Some(bytes) => Vec::from_slice(heap, bytes),
-        None => Ok(Vec::new(heap)),
+        Some(bytes) => Ok(Vec::from_slice(heap, bytes)?),
+        None => Err(Trouble::Unprintable),
     }
 }
 
@@ -50,28 +50,27 @@ fn anchor_of(
     stock: Stock<'_>,
     piece: Piece,
     event: &Event,
-) -> Result<Vec<u8>, AllocError> {
+) -> Result<Vec<u8>, Trouble> {
     let Some(before) = event.anchor.checked_sub(1) else {
         return Ok(Vec::new(heap));
     };
     let Some(marks) = piece.marks.part_of(stock.marks) else {
-        return Ok(Vec::new(heap));
+        return Err(Trouble::Unprintable);
     };
     match marks.get(before as usize) {
         Some(mark) => bytes_of(heap, mark.name.part_of(stock.bytes)),
-        None => Ok(Vec::new(heap)),
+        None => Err(Trouble::Unprintable),
     }
 }
 
-// The line of event notation of an event.
-fn line_of(
-    heap: Global,
-    stock: Stock<'_>,
-    piece: Piece,
-    event: &Event,
-) -> Result<Line, AllocError> {
-    let kind = EventKind::from_number(event.kind).unwrap_or(EventKind::Scalar);
-    let style = ScalarStyle::from_number(event.style).unwrap_or(ScalarStyle::Plain);
+// The line of event notation of an event. None stands for an event of an unknown kind or style.
+fn line_of(heap: Global, stock: Stock<'_>, piece: Piece, event: &Event) -> Result<Line, Trouble> {
+    let Some(kind) = EventKind::from_number(event.kind) else {
+        return Err(Trouble::Unprintable);
+    };
+    let Some(style) = ScalarStyle::from_number(event.style) else {
+        return Err(Trouble::Unprintable);
+    };
     Ok(Line {
         kind,
         anchor: anchor_of(heap, stock, piece, event)?,
@@ -112,11 +111,12 @@ fn print_tape(
     let mut out = Vec::new(heap);
     for i in 0..tape.len() {
         let Some(place) = tape.place(i) else {
-            return Ok(out);
+            return Err(Trouble::Unprintable);
         };
-        if let Some(event) = stock.events.get(place as usize) {
-            push_event(heap, &mut out, stock, piece, event)?;
-        }
+        let Some(event) = stock.events.get(place as usize) else {
+            return Err(Trouble::Unprintable);
+        };
+        push_event(heap, &mut out, stock, piece, event)?;
     }
     Ok(out)
 }
