@@ -1,36 +1,11 @@
 -- The last mark of a name.
-use Rattle.std.proofs.Common.{◌≡◌, ℕ, zero, suc, ◌+◌, ◌-◌, ◌<◌, ◌≤◌, Bool, true, false, List, [], ◌∷◌, length, get_or, drop, Some, None, Option, sym, refl, ap, ◌∙◌, add-one, arith, MatchOption}
-use Rattle.std.proofs.lemmas.List.{drop_more, drop_all}
+use Rattle.std.proofs.Common.{◌≡◌, ℕ, zero, suc, ◌+◌, ◌-◌, ◌<◌, ◌≤◌, Bool, true, false, ◌⊎◌, inl, inr, List, [], ◌∷◌, length, get_or, Some, None, Option, refl, ap, ◌∙◌, arith, MatchOption}
+use Rattle.std.specs.Bool.{then_some}
+use Rattle.std.specs.Option.{option_or}
+use Rattle.std.proofs.lemmas.Bool.{both_ways, cases_lt}
 use Rattle.events.specs.declared.score.Mark.{Mark}
-use Rattle.events.specs.Scores.{found_if, no_mark}
-use Rattle.events.specs.Tables.{is_named, or_else, last_from, last_named, FindsLast}
-
-or_else_assoc : {A : Type 0} (a b c : Option A) → or_else (or_else a b) c ≡ or_else a (or_else b c)
-or_else_assoc None b c = refl
-or_else_assoc (Some x) b c = refl
-
-or_else_none : {A : Type 0} (a : Option A) → or_else a None ≡ a
-or_else_none None = refl
-or_else_none (Some x) = refl
-
-module _ (bytes name : List ℕ) (ms : List Mark) (i : ℕ) (found : Option ℕ) where
-  abbrev left : ℕ → Option ℕ
-  left n = last_from bytes name (suc n) (drop n ms)
-
-  last_step : i < length ms → or_else (left i) found ≡ or_else (left (i + 1)) (or_else (found_if (is_named bytes name (get_or ms i no_mark)) (i + 1)) found)
-  last_step h =
-      let m = get_or ms i no_mark in
-      let e : left i ≡ or_else (left (i + 1)) (found_if (is_named bytes name m) (i + 1)) = ap (last_from bytes name (suc i)) (drop_more ms i no_mark h) ∙ ap (λ k. or_else (last_from bytes name (suc k) (drop (i + 1) ms)) (found_if (is_named bytes name m) k)) (sym (add-one i)) in
-      ap (λ o. or_else o found) e ∙ or_else_assoc (left (i + 1)) (found_if (is_named bytes name m) (i + 1)) found
-
-  pub last_here : i < length ms → is_named bytes name (get_or ms i no_mark) ≡ true → or_else (left i) found ≡ or_else (left (i + 1)) (Some (i + 1))
-  last_here h t = last_step h ∙ ap (λ b. or_else (left (i + 1)) (or_else (found_if b (i + 1)) found)) t
-
-  pub last_pass : i < length ms → is_named bytes name (get_or ms i no_mark) ≡ false → or_else (left i) found ≡ or_else (left (i + 1)) found
-  last_pass h t = last_step h ∙ ap (λ b. or_else (left (i + 1)) (or_else (found_if b (i + 1)) found)) t
-
-  pub last_ends : length ms ≤ i → or_else (left i) found ≡ found
-  last_ends h = ap (λ l. or_else (last_from bytes name (suc i) l) found) (drop_all i ms h)
+use Rattle.events.specs.Scores.{no_mark}
+use Rattle.events.specs.Tables.{is_named, last_from, last_named, FindsLast}
 
 -- what is found among marks of which the first has number k
 module _ (bytes name : List ℕ) where
@@ -67,7 +42,7 @@ module _ (bytes name : List ℕ) where
   found_from k [] = λ j h. absurd (omega arith)
   found_from k (m ∷ ms) = at (last_from bytes name (suc k) ms) (found_from (suc k) ms) (is_named bytes name m) refl
     where
-      at : (o : Option ℕ) → MatchOption o (Nowhere ms) (At (suc k) ms) → (b : Bool) → is_named bytes name m ≡ b → MatchOption (or_else o (found_if b k)) (Nowhere (m ∷ ms)) (At k (m ∷ ms))
+      at : (o : Option ℕ) → MatchOption o (Nowhere ms) (At (suc k) ms) → (b : Bool) → is_named bytes name m ≡ b → MatchOption (option_or o (then_some b k)) (Nowhere (m ∷ ms)) (At k (m ∷ ms))
       at (Some n) a b t = behind_one m ms k n a
       at None none true t = first_one m ms k none t
       at None none false t = no_one m ms none t
@@ -80,3 +55,18 @@ module _ (bytes name : List ℕ) where
       at (Some n) a =
           let e : n - 1 ≡ a.place = omega (arith, a.number) in
           record { least = omega (arith, a.number); most = omega (arith, a.number, a.inside); named = ap (λ p. is_named bytes name (get_or ms p no_mark)) e ∙ a.named; none_later = λ j h l. a.none_later (j - 1) (omega arith) (omega arith) }
+
+  -- no other answer finds the last mark of the name
+  pub last_is : (ms : List Mark) (o : Option ℕ) → FindsLast bytes name ms o → o ≡ last_named bytes name ms
+  last_is ms o f = at o f (last_named bytes name ms) (finds_last ms)
+    where
+      at : (o : Option ℕ) → FindsLast bytes name ms o → (p : Option ℕ) → FindsLast bytes name ms p → o ≡ p
+      at None a None b = refl
+      at None a (Some k) b = absurd (both_ways _ (a k b.least b.most) b.named)
+      at (Some j) a None b = absurd (both_ways _ (b j a.least a.most) a.named)
+      at (Some j) a (Some k) b = by (cases_lt j k) (cases_lt k j)
+        where
+          by : (j < k) ⊎ (k ≤ j) → (k < j) ⊎ (j ≤ k) → ◌≡◌ {A = Option ℕ} (Some j) (Some k)
+          by (inl h) _ = absurd (both_ways _ (a.none_later k h b.most) b.named)
+          by (inr h) (inl g) = absurd (both_ways _ (b.none_later j g a.most) a.named)
+          by (inr h) (inr g) = ap Some (omega arith)

@@ -1,5 +1,4 @@
 pub mod Loops
-pub mod Stacking
 pub mod Balancing
 pub mod Ranges
 pub mod Numbers
@@ -7,5 +6,4 @@ pub mod Table
 pub mod Filling
 pub mod LastMarks
 pub mod Sizes
-pub mod Verdicts
 pub mod SoundNodes

@@ -1,24 +1,28 @@
--- One turn of a loop that judges a list item by item.
-use Rattle.std.proofs.Common.{◌≡◌, ℕ, ◌+◌, ◌<◌, ◌≤◌, Bool, true, false, ◌&&◌, List, length, get_or, drop, Some, None, Option, ap, ◌∙◌}
+-- A list judged item by item, as a walk and as a test.
+use Rattle.std.proofs.Common.{◌≡◌, ℕ, ◌+◌, ◌<◌, ◌≤◌, Bool, List, [], ◌∷◌, length, get_or, drop, Some, None, Option, is_some, true, eqb, refl, ap, ◌∙◌}
+use Rattle.std.specs.Option.{option_eq}
 use Rattle.std.proofs.lemmas.List.{drop_more, drop_all}
-use Rattle.events.specs.Walks.{all, onward, keeps}
+use Rattle.events.specs.Walks.{Walks, ends, breaks, goes, onward, keeps}
 
-module _ {A : Type 0} (f : A → Bool) (xs : List A) (i : ℕ) (d : A) where
-  pub all_passes : i < length xs → f (get_or xs i d) ≡ true → all f (drop i xs) ≡ all f (drop (i + 1) xs)
-  all_passes h t = ap (all f) (drop_more xs i d h) ∙ ap (λ b. b && all f (drop (i + 1) xs)) t
+module _ {S A : Type 0} (Step : S → A → Option S → Type 0) (xs : List A) (s : S) (i : ℕ) (d : A) where
+  pub walks_break : i < length xs → Step s (get_or xs i d) None → Walks Step s (drop i xs) None
+  walks_break h e = rw (drop_more xs i d h) (breaks e)
 
-  pub all_fails : i < length xs → f (get_or xs i d) ≡ false → all f (drop i xs) ≡ false
-  all_fails h t = ap (all f) (drop_more xs i d h) ∙ ap (λ b. b && all f (drop (i + 1) xs)) t
+  pub walks_go : (t : S) (r : Option S) → i < length xs → Step s (get_or xs i d) (Some t) → Walks Step t (drop (i + 1) xs) r → Walks Step s (drop i xs) r
+  walks_go t r h e w = rw (drop_more xs i d h) (goes e w)
 
-  pub all_ends : length xs ≤ i → all f (drop i xs) ≡ true
-  all_ends h = ap (all f) (drop_all i xs h)
+  pub walks_end : length xs ≤ i → Walks Step s (drop i xs) (Some s)
+  walks_end h = rw (drop_all i xs h) ends
 
-module _ {S A : Type 0} (step : S → A → Option S) (done : S → Bool) (xs : List A) (s t : S) (i : ℕ) (d : A) where
-  pub keeps_on : i < length xs → step s (get_or xs i d) ≡ Some t → keeps step done s (drop i xs) ≡ keeps step done t (drop (i + 1) xs)
-  keeps_on h e = ap (keeps step done s) (drop_more xs i d h) ∙ ap (λ o. onward o (λ u. keeps step done u (drop (i + 1) xs))) e
+pub walks_keep : {S A : Type 0} (step : S → A → Option S) (done : S → Bool) (Step : S → A → Option S → Type 0) → ((s : S) (x : A) (o : Option S) → Step s x o → o ≡ step s x) → (s : S) (xs : List A) (r : Option S) → Walks Step s xs r → onward r done ≡ keeps step done s xs
+walks_keep step done Step f s [] r ends = refl
+walks_keep step done Step f s (x ∷ xs) r (breaks e) = ap (λ o. onward o (λ t. keeps step done t xs)) (f s x None e)
+walks_keep step done Step f s (x ∷ xs) r (goes {t = t} e w) = walks_keep step done Step f t xs r w ∙ ap (λ o. onward o (λ u. keeps step done u xs)) (f s x (Some t) e)
 
-  pub keeps_fails : i < length xs → step s (get_or xs i d) ≡ None → keeps step done s (drop i xs) ≡ false
-  keeps_fails h e = ap (keeps step done s) (drop_more xs i d h) ∙ ap (λ o. onward o (λ u. keeps step done u (drop (i + 1) xs))) e
+pub onward_some : {A : Type 0} (o : Option A) → is_some o ≡ onward o (λ _. true)
+onward_some None = refl
+onward_some (Some x) = refl
 
-  pub keeps_ends : length xs ≤ i → keeps step done s (drop i xs) ≡ done s
-  keeps_ends h = ap (keeps step done s) (drop_all i xs h)
+pub onward_eq : (n : ℕ) (o : Option ℕ) → option_eq eqb o (Some n) ≡ onward o (λ k. eqb k n)
+onward_eq n None = refl
+onward_eq n (Some x) = refl

@@ -1,10 +1,11 @@
 -- What the first rule gives: how long the lists of a piece are.
 use Rattle.std.proofs.Common.{◌≡◌, ℕ, ◌+◌, ◌≤◌, Bool, true, false, ◌&&◌, leb, List, length, drop, Some, arith, length-drop, length-take}
+use Rattle.std.specs.List.{list_all}
 use Rattle.std.proofs.lemmas.Bool.{and_parts, leb-true}
 use Rattle.events.specs.declared.score.Run.{Run}
 use Rattle.events.specs.declared.score.Piece.{Piece}
-use Rattle.events.specs.Scores.{Lists, within, part, marks_of, events_of, found_if}
-use Rattle.events.specs.Walks.{all}
+use Rattle.events.specs.Scores.{Lists, within, part, marks_of, events_of}
+use Rattle.std.specs.Bool.{then_some}
 use Rattle.events.specs.Rules.{stock_fits, piece_fits, mark_fits, event_fits, sizes_hold}
 
 -- the sizes of a piece that keeps the first rule
@@ -14,14 +15,14 @@ pub record Sized (l : Lists) (p : Piece) : Type 0 where
   pub few_events : p.events.len ≤ 8192
   pub marks_inside : p.marks.start + p.marks.len ≤ length l.marks
   pub events_inside : p.events.start + p.events.len ≤ length l.events
-  pub marks_fit : all (mark_fits (length l.bytes)) (marks_of l p) ≡ true
-  pub events_fit : all (event_fits (length l.bytes)) (events_of l p) ≡ true
+  pub marks_fit : list_all (mark_fits (length l.bytes)) (marks_of l p) ≡ true
+  pub events_fit : list_all (event_fits (length l.bytes)) (events_of l p) ≡ true
 
 pub sized : (l : Lists) (p : Piece) → sizes_hold l p ≡ true → Sized l p
 sized l p t =
     let n = length l.bytes in
-    let bm = all (mark_fits n) (marks_of l p) in
-    let be = all (event_fits n) (events_of l p) in
+    let bm = list_all (mark_fits n) (marks_of l p) in
+    let be = list_all (event_fits n) (events_of l p) in
     let wm = within p.marks (length l.marks) in
     let we = within p.events (length l.events) in
     let a = and_parts (stock_fits l) (piece_fits p && (wm && (we && (bm && be)))) t in
@@ -41,6 +42,6 @@ part_length r xs h =
     omega arith
 
 -- what was found is what was looked for
-pub found_is : {A : Type 0} (b : Bool) (x y : A) → Some x ≡ found_if b y → x ≡ y
+pub found_is : {A : Type 0} (b : Bool) (x y : A) → Some x ≡ then_some b y → x ≡ y
 found_is true x y e = cc
 found_is false x y e = let z : ◌≡◌ {A = ℕ} 0 1 = cc in absurd (omega arith)

@@ -1,5 +1,6 @@
 -- When a piece of a stock is sound: four rules, of which the first that is broken is told.
 use Rattle.std.specs.Prelude.{ℕ, ◌+◌, max, Bool, true, false, cond, not, ◌&&◌, List, [], ◌∷◌, length, is_some, Some, None, Option, ◌==◌, nat_eq, nat_le}
+use Rattle.std.specs.List.{list_all}
 use Rattle.events.specs.declared.score.Mark.{Mark}
 use Rattle.events.specs.declared.score.Event.{Event}
 use Rattle.events.specs.declared.score.Piece.{Piece}
@@ -11,7 +12,7 @@ use Rattle.events.specs.declared.kinds.Rule.{Rule}
 use Rattle.events.specs.declared.kinds.Rule.TheVariants.{Sizes, Nesting, Numbering, Aliases}
 use Rattle.events.specs.Kinds.{style_of}
 use Rattle.events.specs.Scores.{Lists, within, marks_of, events_of, kind}
-use Rattle.events.specs.Walks.{all, keeps}
+use Rattle.events.specs.Walks.{keeps}
 
 -- 1: sizes hold, runs and ranges lie inside the lists, kinds and styles are known
 
@@ -32,7 +33,7 @@ event_fits n e = is_some (kind e) && (is_some (style_of e.style) && (within e.va
 abbrev pub sizes_hold : Lists → Piece → Bool
 sizes_hold l p =
     stock_fits l && (piece_fits p && (within p.marks (length l.marks) && (within p.events (length l.events)
-    && (all (mark_fits (length l.bytes)) (marks_of l p) && all (event_fits (length l.bytes)) (events_of l p)))))
+    && (list_all (mark_fits (length l.bytes)) (marks_of l p) && list_all (event_fits (length l.bytes)) (events_of l p)))))
 
 -- 2: sequences and mappings pair and nest, all are closed at the last event, and streams and documents start and end outside of them
 

@@ -1,5 +1,6 @@
 -- The lists of a stock, and the parts of them that a piece has.
-use Rattle.std.specs.Prelude.{ℕ, ◌+◌, Bool, true, false, List, length, take, drop, Some, None, Option, nat_le}
+use Rattle.std.specs.Prelude.{ℕ, ◌+◌, Bool, List, length, take, drop, Option, nat_le}
+use Rattle.std.specs.Bool.{then_some}
 use Rattle.events.specs.declared.score.Run.{Run}
 use Rattle.events.specs.declared.score.Mark.{Mark}
 use Rattle.events.specs.declared.score.Event.{Event}
@@ -25,14 +26,9 @@ within r n = nat_le (r.start + r.len) n
 abbrev pub part : {A : Type 0} → Run → List A → List A
 part r xs = take r.len (drop r.start xs)
 
--- what was found, where it was
-abbrev pub found_if : {A : Type 0} → Bool → A → Option A
-found_if true x = Some x
-found_if false x = None
-
 -- the items of a run, if it lies inside the list
 abbrev pub part_in : {A : Type 0} → Run → List A → Option (List A)
-part_in r xs = found_if (within r (length xs)) (part r xs)
+part_in r xs = then_some (within r (length xs)) (part r xs)
 
 abbrev pub marks_of : Lists → Piece → List Mark
 marks_of l p = part p.marks l.marks

@@ -1,32 +1,26 @@
--- What a table of node ranges holds, and which mark a name finds.
-use Rattle.std.specs.Prelude.{◌≡◌, ℕ, suc, ◌-◌, ◌<◌, ◌≤◌, Bool, true, false, ◌&&◌, List, [], ◌∷◌, length, take, Some, None, Option, MatchOption, nat_le, slice_index_or}
+-- Which range a number finds, and which mark a name finds.
+use Rattle.std.specs.Prelude.{◌≡◌, ℕ, suc, ◌-◌, ◌<◌, ◌≤◌, Bool, true, false, ◌&&◌, List, [], ◌∷◌, length, None, Option, MatchOption, nat_le, slice_index_or}
+use Rattle.std.specs.Bool.{then_some}
+use Rattle.std.specs.Option.{option_or}
 use Rattle.std.specs.Str.{bytes_eq}
 use Rattle.events.specs.declared.score.Mark.{Mark}
 use Rattle.events.specs.declared.score.NodeRange.{NodeRange}
-use Rattle.events.specs.Scores.{part_in, found_if, no_mark}
+use Rattle.events.specs.Scores.{part_in, no_mark}
 use Rattle.events.specs.Walks.{onward}
 use Rattle.events.specs.Nodes.{no_range}
 
--- the ranges that a table of n entries holds
-abbrev pub tabled : List NodeRange → ℕ → List NodeRange
-tabled rs n = take n rs
-
 -- the range of number k, where k is from 1 to the count of ranges
 abbrev pub range_at : List NodeRange → ℕ → Option NodeRange
-range_at rs k = found_if (nat_le 1 k && nat_le k (length rs)) (slice_index_or rs (k - 1) no_range)
+range_at rs k = then_some (nat_le 1 k && nat_le k (length rs)) (slice_index_or rs (k - 1) no_range)
 
 -- a mark has a name; one whose run lies outside the bytes has none
 abbrev pub is_named : List ℕ → List ℕ → Mark → Bool
 is_named bytes name m = onward (part_in m.name bytes) (λ text. bytes_eq text name)
 
-abbrev pub or_else : {A : Type 0} → Option A → Option A → Option A
-or_else None b = b
-or_else (Some x) b = Some x
-
 -- the number of the last mark of a name, where the first mark of the list has number k
 abbrev pub last_from : List ℕ → List ℕ → ℕ → List Mark → Option ℕ
 last_from bytes name k [] = None
-last_from bytes name k (m ∷ ms) = or_else (last_from bytes name (suc k) ms) (found_if (is_named bytes name m) k)
+last_from bytes name k (m ∷ ms) = option_or (last_from bytes name (suc k) ms) (then_some (is_named bytes name m) k)
 
 abbrev pub last_named : List ℕ → List ℕ → List Mark → Option ℕ
 last_named bytes name ms = last_from bytes name 1 ms

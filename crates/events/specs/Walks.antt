@@ -1,10 +1,5 @@
 -- Rules that are judged item by item, from the front of a list.
-use Rattle.std.specs.Prelude.{Bool, true, false, ◌&&◌, List, [], ◌∷◌, Some, None, Option}
-
--- a test passes at each item
-abbrev pub all : {A : Type 0} → (A → Bool) → List A → Bool
-all f [] = true
-all f (x ∷ xs) = f x && all f xs
+use Rattle.std.specs.Prelude.{Bool, false, List, [], ◌∷◌, Some, None, Option}
 
 -- a test of what there is; where there is nothing it fails
 abbrev pub onward : {A : Type 0} → Option A → (A → Bool) → Bool
@@ -15,3 +10,9 @@ onward (Some x) f = f x
 abbrev pub keeps : {S A : Type 0} → (S → A → Option S) → (S → Bool) → S → List A → Bool
 keeps step done s [] = done s
 keeps step done s (x ∷ xs) = onward (step s x) (λ t. keeps step done t xs)
+
+-- the walks over a list that steps allow: to the state at the end, or none where a step breaks off
+pub data Walks {S A : Type 0} (Step : S → A → Option S → Type 0) : S → List A → Option S → Type 0 where
+  ends : {s : S} → Walks Step s [] (Some s)
+  breaks : {s : S} {x : A} {xs : List A} → Step s x None → Walks Step s (x ∷ xs) None
+  goes : {s t : S} {x : A} {xs : List A} {r : Option S} → Step s x (Some t) → Walks Step t xs r → Walks Step s (x ∷ xs) r

@@ -8,10 +8,7 @@ use crate::score::Mark;
 fn is_named(bytes: &[u8], mark: Mark, name: &[u8]) -> bool
     ensures { result ≡ is_named bytes.now name.now mark }
 {
-    match mark.name.part_of(bytes) {
-        Some(text) => text == name,
-        None => false,
-    }
+    mark.name.part_of(bytes).is_some_and(|text| text == name)
 }
 
 /// The number of the last mark with a name, if any mark has it; the first mark has number 1.
@@ -19,13 +16,8 @@ pub fn last_named(bytes: &[u8], marks: &[Mark], name: &[u8]) -> Option<usize>
     ensures is_the_number_of_the_last_mark { result ≡ last_named bytes.now name.now marks.now }
     ensures finds_the_last { FindsLast bytes.now name.now marks.now result }
 {
-    let mut number = 0;
-    let mut found = None;
-    for mark in marks {
-        number += 1;
-        if is_named(bytes, *mark, name) {
-            found = Some(number);
-        }
-    }
-    found
+    marks
+        .iter()
+        .rposition(|mark| is_named(bytes, *mark, name))
+        .map(|place| place + 1)
 }

@@ -1,90 +1,47 @@
 //! The nesting rule: sequences and mappings pair and nest, and streams and documents start and end outside of them.
-ghost use Rattle.std.specs.Prelude.{◌≡◌, ◌+◌, ◌<◌, ◌≤◌, [], ◌∷◌, length};
-ghost use Rattle.events.specs.Rules.{nests, same, shut, turned};
-ghost use Rattle.events.specs.Stacks.{opened, stacked};
+ghost use Rattle.std.specs.Prelude.{◌≡◌, ◌+◌, ◌<◌, ◌≤◌, length, reverse};
+ghost use Rattle.std.specs.Bool.{then_some};
+ghost use Rattle.arrayvec.specs.ArrayVec.{array_vec_len};
+ghost use Rattle.events.specs.Rules.{nests, shut, turned};
 
 use crate::kinds::{Container, EventKind};
 use crate::score::Event;
+use arrayvec::ArrayVec;
 
-/// The containers that are open: the first `count` of a table with a place for each event of a piece.
-#[derive(Drop)]
-struct OpenContainers {
-    table: [Container; 8192],
-    count: usize,
-    ghost sized: { length table ≡ 8192 },
-    ghost bounded: { count ≤ 8192 },
+/// Closes the innermost open container if it is of the wanted kind.
+fn close(held: &mut ArrayVec<Container, 8192>, container: Container) -> bool
+    ensures containers { then_some result (reverse held.new.items) ≡ shut container (reverse held.old.items) }
+    ensures count { array_vec_len held.new ≤ array_vec_len held.old }
+{
+    if held.last() != Some(&container) {
+        return false;
+    }
+    held.pop();
+    true
 }
 
-impl Container {
-    fn is(self, other: Container) -> bool
-        ensures { result ≡ same self other }
-    {
-        match (self, other) {
-            (Container::Sequence, Container::Sequence) => true,
-            (Container::Mapping, Container::Mapping) => true,
-            _ => false,
+/// What an event of a kind opens and closes; false if it may not stand here.
+fn turn(held: &mut ArrayVec<Container, 8192>, kind: EventKind) -> bool
+    requires { array_vec_len held.old < 8192 }
+    ensures containers { then_some result (reverse held.new.items) ≡ turned kind (reverse held.old.items) }
+    ensures count { array_vec_len held.new ≤ array_vec_len held.old + 1 }
+{
+    match kind {
+        EventKind::SequenceStart => {
+            held.push(Container::Sequence);
+            true
         }
-    }
-}
-
-impl OpenContainers {
-    fn new() -> OpenContainers
-        ensures { (stacked result.table result.count ≡ []) × (result.count ≡ 0) }
-    {
-        OpenContainers {
-            table: [Container::Sequence; 8192],
-            count: 0,
+        EventKind::MappingStart => {
+            held.push(Container::Mapping);
+            true
         }
-    }
-
-    fn push(&mut self, container: Container)
-        requires { self.old.count < 8192 }
-        ensures held { stacked self.new.table self.new.count ≡ container ∷ stacked self.old.table self.old.count }
-        ensures count { self.new.count ≡ self.old.count + 1 }
-    {
-        self.table[self.count] = container;
-        self.count += 1;
-    }
-
-    /// Closes the innermost container if it is of the wanted kind.
-    fn pop(&mut self, container: Container) -> bool
-        ensures held { opened result (stacked self.new.table self.new.count) ≡ shut container (stacked self.old.table self.old.count) }
-        ensures count { self.new.count ≤ self.old.count }
-    {
-        if self.count == 0 {
-            return false;
-        }
-        let top = self.table[self.count - 1];
-        if container.is(top) {
-            self.count -= 1;
-            return true;
-        }
-        false
-    }
-
-    /// What an event of a kind opens and closes; false if it may not stand here.
-    fn turn(&mut self, kind: EventKind) -> bool
-        requires { self.old.count < 8192 }
-        ensures held { opened result (stacked self.new.table self.new.count) ≡ turned kind (stacked self.old.table self.old.count) }
-        ensures count { self.new.count ≤ self.old.count + 1 }
-    {
-        match kind {
-            EventKind::SequenceStart => {
-                self.push(Container::Sequence);
-                true
-            }
-            EventKind::MappingStart => {
-                self.push(Container::Mapping);
-                true
-            }
-            EventKind::SequenceEnd => self.pop(Container::Sequence),
-            EventKind::MappingEnd => self.pop(Container::Mapping),
-            EventKind::Alias | EventKind::Scalar => true,
-            EventKind::StreamStart
-            | EventKind::StreamEnd
-            | EventKind::DocumentStart
-            | EventKind::DocumentEnd => { self.count == 0 }
-        }
+        EventKind::SequenceEnd => close(held, Container::Sequence),
+        EventKind::MappingEnd => close(held, Container::Mapping),
+        EventKind::Alias | EventKind::Scalar => true,
+        EventKind::StreamStart
+        | EventKind::StreamEnd
+        | EventKind::DocumentStart
+        | EventKind::DocumentEnd => held.is_empty(),
     }
 }
 
@@ -93,14 +50,14 @@ pub(crate) fn containers_nest(events: &[Event]) -> bool
     requires { length events.now ≤ 8192 }
     ensures { result ≡ nests events.now }
 {
-    let mut containers = OpenContainers::new();
+    let mut held = ArrayVec::new();
     for event in events {
-        let Some(kind) = EventKind::from_number(event.kind) else {
+        let Some(kind) = event.kind() else {
             return false;
         };
-        if !containers.turn(kind) {
+        if !turn(&mut held, kind) {
             return false;
         }
     }
-    containers.count == 0
+    held.is_empty()
 }

@@ -1,19 +1,22 @@
 //! The four rules of a sound piece, each as a test of the piece's own lists.
-ghost use Rattle.std.specs.Prelude.{◌≡◌, length};
+ghost use Rattle.std.specs.Prelude.{◌≡◌};
 ghost use Rattle.events.specs.Scores.{lists, part_in, within};
 ghost use Rattle.events.specs.Rules.{stock_fits, piece_fits, mark_fits, event_fits, may_carry, numbered_at, numbers, named_at, points_back, rule_number};
-ghost use Rattle.events.specs.Walks.{all};
+ghost use Rattle.events.specs.Walks.{Walks};
+ghost use Rattle.std.specs.List.{list_all};
 ghost use Rattle.std.specs.Option.{option_map};
 
 use crate::kinds::{EventKind, Rule, ScalarStyle};
 use crate::score::{Event, Mark, Piece, Run, Stock};
+use std::error::Error;
+use std::fmt;
 
-impl Rule {
-    /// The number of a rule, 1 to 4.
-    pub fn number(self) -> u32
-        ensures is_the_number_of_the_rule { result ≡ rule_number self }
-    {
-        match self {
+/// The number of a rule, 1 to 4.
+impl From<Rule> for u32 {
+    ghost from_gives = { λ rule number. number ≡ rule_number rule };
+
+    fn from(rule: Rule) -> u32 {
+        match rule {
             Rule::Sizes => 1,
             Rule::Nesting => 2,
             Rule::Numbering => 3,
@@ -21,6 +24,20 @@ impl Rule {
         }
     }
 }
+
+impl fmt::Display for Rule {
+    fn fmt<W: fmt::Write>(&self, f: &mut fmt::Formatter<W>) -> fmt::Result {
+        f.write_str(match self {
+            Rule::Sizes =>
+                "a size is passed, a run lies outside its list, or a kind or style is unknown",
+            Rule::Nesting => "sequences and mappings do not pair and nest",
+            Rule::Numbering => "anchor numbers are not 1, 2, .. in order",
+            Rule::Aliases => "an alias names no anchor before it",
+        })
+    }
+}
+
+impl Error for Rule {}
 
 impl Run {
     /// Whether the run lies inside a list of `size` items.
@@ -35,11 +52,8 @@ impl Run {
     pub fn part_of<T>(self, items: &[T]) -> Option<&[T]>
         ensures is_the_part_inside { option_map (λ x. x.now) result ≡ part_in self items.now }
     {
-        if !self.lies_within(items.len()) {
-            return None;
-        }
         let start = self.start as usize;
-        Some(&items[start..start + self.len as usize])
+        items.get(start..start + self.len as usize)
     }
 }
 
@@ -48,8 +62,8 @@ impl Event {
     pub fn is_well_formed(self, size: usize) -> bool
         ensures kind_style_and_ranges_hold { result ≡ event_fits size self }
     {
-        EventKind::from_number(self.kind).is_some()
-            && ScalarStyle::from_number(self.style).is_some()
+        self.kind().is_some()
+            && ScalarStyle::try_from(self.style).is_ok()
             && self.value.lies_within(size)
             && self.tag.lies_within(size)
     }
@@ -71,60 +85,49 @@ pub(crate) fn piece_fits(piece: Piece) -> bool
 
 /// Whether the name of each mark lies inside a stock of `size` bytes.
 pub(crate) fn marks_fit(marks: &[Mark], size: usize) -> bool
-    ensures { result ≡ all (mark_fits size) marks.now }
+    ensures { result ≡ list_all (mark_fits size) marks.now }
 {
-    for mark in marks {
-        if !mark.name.lies_within(size) {
-            return false;
-        }
-    }
-    true
+    marks.iter().all(|mark| mark.name.lies_within(size))
 }
 
 /// Whether each event is well formed in a stock of `size` bytes.
 pub(crate) fn events_fit(events: &[Event], size: usize) -> bool
-    ensures { result ≡ all (event_fits size) events.now }
+    ensures { result ≡ list_all (event_fits size) events.now }
 {
-    for event in events {
-        if !event.is_well_formed(size) {
-            return false;
-        }
-    }
-    true
+    events.iter().all(|event| event.is_well_formed(size))
 }
 
 /// The highest number carried after an event, where `highest` was it before; `None` if the event breaks the numbering.
 fn number_after(highest: u32, event: Event) -> Option<u32>
     ensures { result ≡ numbered_at highest event }
 {
-    match EventKind::from_number(event.kind)? {
+    match event.kind()? {
         EventKind::Alias => Some(highest),
         EventKind::Scalar | EventKind::SequenceStart | EventKind::MappingStart => next_number(
             highest,
             event.anchor,
         ),
-        _ => {
-            if event.anchor == 0 {
-                Some(highest)
-            } else {
-                None
-            }
-        }
+        _ => (event.anchor == 0).then_some(highest),
     }
+}
+
+/// The highest number after all events, where `step` tells it after each; `None` where an event may not stand.
+fn highest_after<F: Fn(u32, Event) -> Option<u32>>(events: &[Event], step: F) -> Option<u32>
+    requires { F.IsAlwaysCallable step }
+    ensures { Walks (F.post step) 0 events.now result }
+{
+    let mut highest = 0;
+    for event in events {
+        highest = step(highest, *event)?;
+    }
+    Some(highest)
 }
 
 /// Whether the numbers carried by the events are 1, 2, .. `count` in order.
 pub(crate) fn numbers_run(events: &[Event], count: u32) -> bool
     ensures { result ≡ numbers count events.now }
 {
-    let mut highest = 0;
-    for event in events {
-        let Some(number) = number_after(highest, *event) else {
-            return false;
-        };
-        highest = number;
-    }
-    highest == count
+    highest_after(events, |highest, event| number_after(highest, event)) == Some(count)
 }
 
 /// The highest number carried after a node with this anchor: none, or the next.
@@ -134,36 +137,23 @@ fn next_number(highest: u32, anchor: u32) -> Option<u32>
     if anchor == 0 {
         return Some(highest);
     }
-    if anchor - 1 == highest {
-        Some(anchor)
-    } else {
-        None
-    }
+    (anchor - 1 == highest).then_some(anchor)
 }
 
 /// The highest number carried after an event, where `highest` was it before; `None` if the event is an alias that names no number up to there.
 fn named_after(highest: u32, event: Event) -> Option<u32>
     ensures { result ≡ named_at highest event }
 {
-    if let Some(EventKind::Alias) = EventKind::from_number(event.kind) {
-        if event.anchor >= 1 && event.anchor <= highest {
-            return Some(highest);
-        }
-        return None;
+    if event.kind() == Some(EventKind::Alias) {
+        (event.anchor >= 1 && event.anchor <= highest).then_some(highest)
+    } else {
+        Some(highest.max(event.anchor))
     }
-    Some(highest.max(event.anchor))
 }
 
 /// Whether each alias names a number from 1 to the highest carried before it.
 pub(crate) fn aliases_point_back(events: &[Event]) -> bool
     ensures { result ≡ points_back events.now }
 {
-    let mut highest = 0;
-    for event in events {
-        let Some(number) = named_after(highest, *event) else {
-            return false;
-        };
-        highest = number;
-    }
-    true
+    highest_after(events, |highest, event| named_after(highest, event)).is_some()
 }

@@ -7,7 +7,6 @@ mod checking;
 mod nodes;
 mod reading;
 
-use crate::kinds::Rule;
 use crate::score::{Piece, Stock};
 pub use checking::check;
 pub use nodes::NodeTable;
@@ -18,12 +17,4 @@ pub struct SoundPiece<'a> {
     stock: Stock<'a>,
     piece: Piece,
     ghost keeps_the_rules: { sound (lists stock) piece ≡ true },
-}
-
-/// What the soundness check answers: the first broken rule, or none and the piece as a sound one.
-/// Where a rule is broken, `sound` is the empty piece of an empty stock, so that nothing of a broken piece is handed on.
-#[derive(Clone, Copy)]
-pub struct Checked<'a> {
-    pub broken: Option<Rule>,
-    pub sound: SoundPiece<'a>,
 }

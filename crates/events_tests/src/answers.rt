@@ -1,17 +1,8 @@
 //! Writes the answers to a line of the table.
 use crate::notation::{Case, Fault};
-use events::kinds::Rule;
-use events::score::{NodeRange, Stock};
+use events::score::{NodeRange, Piece, Run, Stock};
 use events::sound::{NodeTable, SoundPiece, check};
 use std::alloc::{AllocError, Global};
-
-fn verdict(heap: Global, broken: Option<Rule>) -> Result<String, AllocError> {
-    let Some(rule) = broken else {
-        return String::from_str(heap, "sound");
-    };
-    let number = rule.number();
-    format!(in heap; "rule {number}")
-}
 
 fn range_text(heap: Global, range: Option<NodeRange>) -> Result<String, AllocError> {
     let Some(range) = range else {
@@ -23,14 +14,10 @@ fn range_text(heap: Global, range: Option<NodeRange>) -> Result<String, AllocErr
 }
 
 /// The ranges of all nodes with numbers, each with a space before it.
-fn ranges(heap: Global, nodes: &NodeTable) -> Result<String, AllocError> {
+fn ranges(heap: Global, sound: SoundPiece, nodes: &NodeTable) -> Result<String, AllocError> {
     let mut text = String::new(heap);
-    for number in 1..257usize {
-        let found = nodes.range(number);
-        if found.is_none() {
-            break;
-        }
-        let range = range_text(heap, found)?;
+    for number in 1..=sound.marks().len() {
+        let range = range_text(heap, nodes.range(number))?;
         text.push_str(format!(in heap; " {number}={range}")?.as_str())?;
     }
     Ok(text)
@@ -88,28 +75,55 @@ fn answer_to(
     if let Some(name) = quoted(ask) {
         return Ok(mark_named(heap, sound, name)?);
     }
-    let Some(digits) = ask.strip_prefix("#") else {
-        return Err(Fault::BadLine);
-    };
-    let number = digits.parse::<usize>()?;
+    let number = ask
+        .strip_prefix("#")
+        .ok_or(Fault::BadLine)?
+        .parse::<usize>()?;
     let range = range_text(heap, nodes.range(number))?;
     Ok(format!(in heap; "#{number}={range}")?)
 }
 
-/// The verdict on a case, the ranges of its nodes and what it asks, with spaces between.
+/// The empty piece of an empty stock.
+fn nothing() -> Result<SoundPiece<'static>, Fault> {
+    let stock = Stock {
+        bytes: &[],
+        marks: &[],
+        events: &[],
+    };
+    let run = Run { start: 0, len: 0 };
+    let piece = Piece {
+        marks: run,
+        events: run,
+        text_len: 0,
+    };
+    check(stock, piece).map_err(|_| Fault::BadLine)
+}
+
+/// A verdict, the ranges of the nodes of a piece and what is asked of it, with spaces between.
+fn answers(heap: Global, verdict: &str, sound: SoundPiece, asked: &str) -> Result<String, Fault> {
+    let nodes = sound.nodes();
+    let mut text = String::from_str(heap, verdict)?;
+    text.push_str(ranges(heap, sound, &nodes)?.as_str())?;
+    for ask in asked.split_whitespace() {
+        text.push_str(" ")?;
+        text.push_str(answer_to(heap, sound, &nodes, ask)?.as_str())?;
+    }
+    Ok(text)
+}
+
+/// The verdict on a case, the ranges of its nodes and what it asks. Where the piece is not sound, an empty one is asked.
 pub fn answer(heap: Global, case: &Case) -> Result<String, Fault> {
     let stock = Stock {
         bytes: case.bytes.as_slice(),
         marks: case.marks.as_slice(),
         events: case.events.as_slice(),
     };
-    let checked = check(stock, case.piece);
-    let nodes = checked.sound.nodes();
-    let mut text = verdict(heap, checked.broken)?;
-    text.push_str(ranges(heap, &nodes)?.as_str())?;
-    for ask in case.asked.split_whitespace() {
-        text.push_str(" ")?;
-        text.push_str(answer_to(heap, checked.sound, &nodes, ask)?.as_str())?;
+    match check(stock, case.piece) {
+        Ok(sound) => answers(heap, "sound", sound, case.asked),
+        Err(rule) => {
+            let number = u32::from(rule);
+            let verdict = format!(in heap; "rule {number}")?;
+            answers(heap, verdict.as_str(), nothing()?, case.asked)
+        }
     }
-    Ok(text)
 }

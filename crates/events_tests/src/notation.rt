@@ -1,7 +1,7 @@
 //! Reads a line of the table as a stock, a piece of it and what is asked.
 use events::score::{Event, Mark, Piece, Run, Span};
 use std::alloc::{AllocError, AllocFailed, Global};
-use std::num::ParseIntError;
+use std::num::{ParseIntError, TryFromIntError};
 
 /// Why a line has no answer.
 #[derive(Drop)]
@@ -28,6 +28,12 @@ impl From<ParseIntError> for Fault {
     }
 }
 
+impl From<TryFromIntError> for Fault {
+    fn from(_error: TryFromIntError) -> Fault {
+        Fault::BadLine
+    }
+}
+
 /// A line of the table.
 #[derive(Drop)]
 pub struct Case<'a> {
@@ -40,25 +46,17 @@ pub struct Case<'a> {
 
 /// What stands before a sign, and what stands after it if it is there.
 fn cut<'a>(text: &'a str, sign: &str) -> (&'a str, Option<&'a str>) {
-    match text.split_once(sign) {
-        Some((before, after)) => (before, Some(after)),
-        None => (text, None),
-    }
+    text.split_once(sign)
+        .map_or((text, None), |(before, after)| (before, Some(after)))
 }
 
 /// What stands before and after a sign that has to be there.
 fn parts<'a>(text: &'a str, sign: &str) -> Result<(&'a str, &'a str), Fault> {
-    match text.split_once(sign) {
-        Some(both) => Ok(both),
-        None => Err(Fault::BadLine),
-    }
+    text.split_once(sign).ok_or(Fault::BadLine)
 }
 
 fn number_or(text: Option<&str>, missing: u32) -> Result<u32, Fault> {
-    match text {
-        Some(digits) => Ok(digits.parse::<u32>()?),
-        None => Ok(missing),
-    }
+    Ok(text.map_or(Ok(missing), |digits| digits.parse::<u32>())?)
 }
 
 fn read_run(text: &str) -> Result<Run, Fault> {
@@ -70,10 +68,7 @@ fn read_run(text: &str) -> Result<Run, Fault> {
 }
 
 fn run_or_empty(text: Option<&str>) -> Result<Run, Fault> {
-    match text {
-        Some(run) => read_run(run),
-        None => Ok(Run { start: 0, len: 0 }),
-    }
+    text.map_or(Ok(Run { start: 0, len: 0 }), |run| read_run(run))
 }
 
 fn push_times<T: Copy>(list: &mut Vec<T>, item: T, count: u32) -> Result<(), Fault> {
@@ -144,10 +139,8 @@ fn read_events(heap: Global, column: &str) -> Result<Vec<Event>, Fault> {
 
 /// The run of a whole list.
 fn whole(len: usize) -> Result<Run, Fault> {
-    match u32::try_from(len) {
-        Ok(len) => Ok(Run { start: 0, len }),
-        Err(_) => Err(Fault::BadLine),
-    }
+    let len = u32::try_from(len)?;
+    Ok(Run { start: 0, len })
 }
 
 fn read_piece(column: &str, marks: usize, events: usize) -> Result<Piece, Fault> {
@@ -158,9 +151,7 @@ fn read_piece(column: &str, marks: usize, events: usize) -> Result<Piece, Fault>
             text_len: 0,
         });
     }
-    let Some(runs) = column.strip_prefix("marks ") else {
-        return Err(Fault::BadLine);
-    };
+    let runs = column.strip_prefix("marks ").ok_or(Fault::BadLine)?;
     let (marks, rest) = parts(runs, " events ")?;
     let (events, text) = parts(rest, " text ")?;
     Ok(Piece {

@@ -2,7 +2,7 @@
 #![tactic(auto)]
 
 /// The part of the setter that refuses.
-#[derive(Clone, Copy)]
+#[derive(Clone, Copy, Debug, PartialEq, Eq)]
 pub enum Layer {
     /// The reader of include tags.
     Tags,

@@ -1,10 +1,8 @@
 -- One of the words, as a test and as a fact; words have no `#`.
-use Rattle.std.proofs.Common.{◌≡◌, ℕ, ◌+◌, ◌<◌, Bool, true, false, List, [], ◌∷◌, map, length, get_or, drop, Decides, sym, refl, ap, ◌∙◌, inl, inr, Bor}
+use Rattle.std.proofs.Common.{◌≡◌, ℕ, true, false, List, [], ◌∷◌, Decides, refl, ap, inl, inr}
 use Rattle.std.specs.Str.{bytes_eq}
 use Rattle.std.proofs.lemmas.Slice.Eq.{bytes_eq-Decides}
-use Rattle.std.proofs.lemmas.List.{drop_more}
 use Rattle.std.proofs.lemmas.Bool.{cases_Bool, both_ways}
-use Rattle.std.proofs.lemmas.Bool.Decides.{same_from_decides}
 use Rattle.tags.specs.Hashes.{hashed}
 use Rattle.tags.specs.Words.{include_words, is_word, Among}
 
@@ -27,15 +25,6 @@ word_from_among (w ∷ ws) t (inr m) =
 
 pub word_decides : (ws : List (List ℕ)) (t : List ℕ) → Decides (is_word ws t) (Among ws t)
 word_decides ws t = (among_from_word ws t, word_from_among ws t)
-
--- a loop over words that are slices: the one at a place is the text, or the text is looked for behind it
-pub word_here : (ws : List (Bor (List ℕ))) (i : ℕ) (d : Bor (List ℕ)) (t : List ℕ) → i < length ws → t ≡ (get_or ws i d).now → is_word (map (λ x. x.now) (drop i ws)) t ≡ true
-word_here ws i d t l e = ap (λ vs. is_word (map (λ x. x.now) vs) t) (drop_more ws i d l) ∙ rw ((bytes_eq-Decides t (get_or ws i d).now).1 e)
-
-pub word_on : (ws : List (Bor (List ℕ))) (i : ℕ) (d : Bor (List ℕ)) (t : List ℕ) (b : Bool) → i < length ws → Decides b (t ≡ (get_or ws i d).now) → b ≡ false → is_word (map (λ x. x.now) (drop i ws)) t ≡ is_word (map (λ x. x.now) (drop (i + 1) ws)) t
-word_on ws i d t b l h e =
-    let f : bytes_eq t (get_or ws i d).now ≡ false = sym (same_from_decides _ _ h (bytes_eq-Decides t (get_or ws i d).now)) ∙ e in
-    ap (λ vs. is_word (map (λ x. x.now) vs) t) (drop_more ws i d l) ∙ rw f
 
 -- no word has a `#`
 abbrev pub Hashless : List (List ℕ) → Type 0

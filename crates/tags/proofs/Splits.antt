@@ -1,9 +1,8 @@
 -- A list split at its first `#`.
-use Rattle.std.proofs.Common.{◌≡◌, ℕ, ◌+◌, ◌-◌, ◌<◌, Bool, true, false, ◌||◌, eqb, ◌⊎◌, List, [], ◌∷◌, ◌++◌, length, get_or, take, drop, is_some, Some, None, Option, sym, refl, ap, ◌∙◌, inl, inr, arith, Bor}
-use native.Mathlib.Nat.{sub-zero}
-use Rattle.std.proofs.lemmas.List.{take_more, drop_more, take_rest, take-append-drop}
-use Rattle.std.proofs.lemmas.Bool.{ne_eqb, eqb-true, cases_Bool, or_parts, or_right}
-use Rattle.tags.specs.Hashes.{parts, hashed, split_at_hash, told_parts, is_empty}
+use Rattle.std.proofs.Common.{◌≡◌, ℕ, suc, ◌+◌, ◌<◌, ◌≤◌, Bool, true, false, cond, not, ◌||◌, eqb, ltb, ◌⊎◌, List, [], ◌∷◌, ◌++◌, length, take, drop, Some, None, Option, MatchOption, sym, refl, ap, ◌∙◌, subst, inl, inr, arith}
+use Rattle.std.specs.List.{position, position_or_len}
+use Rattle.std.proofs.lemmas.Bool.{ne_eqb, eqb-true, lt-ltb, le-ltb, cases_Bool, or_parts, or_right}
+use Rattle.tags.specs.Hashes.{Parts, parts, hashed, behind_byte, split_at_hash, is_empty}
 use Rattle.tags.specs.Causes.{SplitsInto, NonEmpty}
 
 or_assoc : (x y z : Bool) → ((x || y) || z) ≡ (x || (y || z))
@@ -52,21 +51,35 @@ same_split p a q b hp hq e =
     let u = ap split_at_hash e in
     cc
 
--- one byte more that is no `#`
-pub free_more : (xs : List ℕ) (i : ℕ) → i < length xs → hashed (take i xs) ≡ false → (get_or xs i 0 ≡ 35 → ⊥) → hashed (take (i + 1) xs) ≡ false
-free_more xs i l h n =
-    let e = ne_eqb (get_or xs i 0) 35 n in
-    ap hashed (take_more xs i 0 l) ∙ hashed_append (take i xs) (get_or xs i 0 ∷ []) ∙ rw (h, e)
+abbrev place : List ℕ → ℕ
+place xs = position_or_len (λ x. eqb x 35) xs
 
--- the two sides of a `#` that stands at a place
-pub split_here : (xs : List ℕ) (i : ℕ) → i < length xs → hashed (take i xs) ≡ false → get_or xs i 0 ≡ 35 → split_at_hash xs ≡ Some (parts (take i xs) (drop (i + 1) xs))
-split_here xs i l h e =
-    let s : xs ≡ take i xs ++ 35 ∷ drop (i + 1) xs = sym (take-append-drop i xs) ∙ ap (λ ys. take i xs ++ ys) (drop_more xs i 0 l ∙ ap (λ y. y ∷ drop (i + 1) xs) e) in
-    split_into xs (take i xs) (drop (i + 1) xs) (s, h)
+-- two sides of a place, or none where the place lies past the list's end
+abbrev SplitsAt : List ℕ → ℕ → Option Parts → Type 0
+SplitsAt xs n r = ((length xs ≤ n) × (r ≡ None)) ⊎ ((n < length xs) × (r ≡ Some (parts (take n xs) (drop (n + 1) xs))))
 
--- the same with the parts as slices are read
-pub slices_here : (xs : List ℕ) (i : ℕ) → parts (take (i - 0) xs) (take (length xs - (i + 1)) (drop (i + 1) xs)) ≡ parts (take i xs) (drop (i + 1) xs)
-slices_here xs i = rw (sub-zero, take_rest)
+split_place : (xs : List ℕ) → SplitsAt xs (place xs) (split_at_hash xs)
+split_place [] = inl (omega arith, refl)
+split_place (x ∷ xs) = at (eqb x 35) (split_place xs)
+  where
+    at : (b : Bool) → SplitsAt xs (place xs) (split_at_hash xs) → SplitsAt (x ∷ xs) (cond (not b) (1 + place xs) 0) (cond b (Some (parts [] xs)) (behind_byte x (split_at_hash xs)))
+    at true _ = inr (omega arith, refl)
+    at false (inl h) = inl (omega (arith, h.0), ap (behind_byte x) h.1)
+    at false (inr h) =
+        let front : 1 + place xs ≡ suc (place xs) = omega arith in
+        let back : 1 + place xs + 1 ≡ suc (place xs + 1) = omega arith in
+        inr (omega (arith, h.0), rw (back, front) (ap (behind_byte x) h.1))
+
+-- what stands before and after the place that was found
+abbrev pub Cuts : List ℕ → Option ℕ → Type 0
+Cuts xs o = MatchOption o (split_at_hash xs ≡ None) (λ i. (i < length xs) × (split_at_hash xs ≡ Some (parts (take i xs) (drop (i + 1) xs))))
+
+pub cuts : (xs : List ℕ) (o : Option ℕ) → o ≡ position (λ x. eqb x 35) xs → Cuts xs o
+cuts xs o e = subst (Cuts xs) (sym e) (at (split_place xs))
+  where
+    at : SplitsAt xs (place xs) (split_at_hash xs) → Cuts xs (cond (ltb (place xs) (length xs)) (Some (place xs)) None)
+    at (inl h) = rw (le-ltb (place xs) (length xs) h.0) h.1
+    at (inr h) = rw (lt-ltb (place xs) (length xs) h.0) h
 
 pub empty_false : (xs : List ℕ) → is_empty xs ≡ false → NonEmpty xs
 empty_false xs h e =
@@ -80,18 +93,3 @@ nonempty_false (x ∷ xs) n = refl
 pub empty_is : (xs : List ℕ) → is_empty xs ≡ eqb (length xs) 0
 empty_is [] = refl
 empty_is (x ∷ xs) = sym (ne_eqb (length (x ∷ xs)) 0 (λ e. omega arith))
-
-told_some : (r : Option (Bor (List ℕ) × Bor (List ℕ))) → is_some r ≡ is_some (told_parts r)
-told_some None = refl
-told_some (Some s) = refl
-
-split_some : (xs : List ℕ) → is_some (split_at_hash xs) ≡ hashed xs
-split_some xs =
-    elim (split_cases xs) [
-      | inl h ↦ ap is_some (split_none xs h) ∙ sym h
-      | inr s ↦ ap is_some (split_into xs s.0 s.1.0 s.1.1) ∙ sym (ap hashed s.1.1.0 ∙ hashed_inside s.0 s.1.0)
-    ]
-
--- a split is found exactly where there is a `#`
-pub found_exactly : (r : Option (Bor (List ℕ) × Bor (List ℕ))) (xs : List ℕ) → told_parts r ≡ split_at_hash xs → is_some r ≡ hashed xs
-found_exactly r xs e = told_some r ∙ ap is_some e ∙ split_some xs

@@ -1,5 +1,6 @@
 -- The byte `#`, and a list of bytes split at its first one.
-use Rattle.std.specs.Prelude.{ℕ, Bool, true, false, cond, ◌||◌, List, [], ◌∷◌, Some, None, Option, ◌==◌}
+use Rattle.std.specs.Prelude.{ℕ, Bool, true, false, cond, List, [], ◌∷◌, Some, None, Option, ◌==◌}
+use Rattle.std.specs.List.{list_any}
 use Rattle.std.specs.Borrow.{Bor}
 
 -- two parts of a text
@@ -8,8 +9,7 @@ pub data Parts : Type 0 where
 
 -- whether a `#`, the byte 35, stands in a list
 abbrev pub hashed : List ℕ → Bool
-hashed [] = false
-hashed (x ∷ xs) = x == 35 || hashed xs
+hashed xs = list_any (λ x. x == 35) xs
 
 -- one byte more at the front of the first part
 abbrev pub behind_byte : ℕ → Option Parts → Option Parts

@@ -5,7 +5,8 @@
 //! Under a word with `#` the whole value is the path, and what follows the tag's first `#` is the anchor.
 #![tactic(auto)]
 
-ghost use Rattle.std.specs.Prelude.{◌≡◌, map, None, Ok, Decides, ◌≢◌};
+ghost use Rattle.std.specs.Prelude.{◌≡◌, ◌==◌, None, Ok, Decides, ◌≢◌};
+ghost use Rattle.std.specs.List.{position};
 ghost use Rattle.events.specs.declared.kinds.EventKind.TheVariants.{Scalar};
 ghost use Rattle.tags.specs.Hashes.{hashed, split_at_hash, told_parts};
 ghost use Rattle.tags.specs.Words.{include_words, is_word};
@@ -24,50 +25,41 @@ const INCLUDE_WORDS: [&[u8]; 3] = [
     b"tag:yaml.org,2002:!include",
 ];
 
+// The place of the first `#`, if there is one.
+fn hash_place(text: &[u8]) -> Option<usize>
+    ensures place { result ≡ position (λ x. x == 35) text.now }
+{
+    text.iter().position(|byte| *byte == b'#')
+}
+
 // What stands before and after the first `#`, if there is one.
 fn split_at_hash<'a>(text: &'a [u8]) -> Option<(&'a [u8], &'a [u8])>
     ensures split { told_parts result ≡ split_at_hash text.now }
 {
-    for i in 0..text.len() {
-        if text[i] == b'#' {
-            return Some((&text[0..i], &text[i + 1..text.len()]));
-        }
-    }
-    None
+    let place = hash_place(text)?;
+    Some((&text[..place], &text[place + 1..]))
 }
 
 // Whether a `#` stands in the text.
 fn has_hash(text: &[u8]) -> bool
     ensures hash { result ≡ hashed text.now }
 {
-    split_at_hash(text).is_some()
-}
-
-// Whether a text is one of the words.
-fn is_one_of(words: &[&[u8]], text: &[u8]) -> bool
-    ensures one_of { result ≡ is_word (map (λ x. x.now) words.now) text.now }
-{
-    for i in 0..words.len() {
-        if text == words[i] {
-            return true;
-        }
-    }
-    false
+    text.contains(&b'#')
 }
 
 // Whether a text is one of the include words.
 fn is_include_word(text: &[u8]) -> bool
     ensures word { result ≡ is_word include_words text.now }
 {
-    is_one_of(&INCLUDE_WORDS, text)
+    INCLUDE_WORDS.iter().any(|word| text == *word)
 }
 
-impl TagError {
-    /// The number that the refusal goes by.
-    pub fn number(self) -> u32
-        ensures numbered { result ≡ refusal_number self }
-    {
-        match self {
+/// The number that a refusal goes by.
+impl From<TagError> for u32 {
+    ghost from_gives = { λ error number. number ≡ refusal_number error };
+
+    fn from(error: TagError) -> u32 {
+        match error {
             TagError::EmptyFragment => 4,
             TagError::HashInValue => 5,
             TagError::IncompleteSpec => 6,
@@ -111,10 +103,8 @@ fn complete_spec<'a>(path: &'a [u8], anchor: &'a [u8]) -> Result<Option<IncludeS
 fn spec_from_value<'a>(value: &'a [u8]) -> Result<Option<IncludeSpec<'a>>, TagError>
     ensures from_value { told result ≡ from_value (split_at_hash value.now) }
 {
-    match split_at_hash(value) {
-        None => Err(TagError::IncompleteSpec),
-        Some((path, anchor)) => complete_spec(path, anchor),
-    }
+    let (path, anchor) = split_at_hash(value).ok_or(TagError::IncompleteSpec)?;
+    complete_spec(path, anchor)
 }
 
 // Under a word with `#`: the value is the path, and the fragment is the anchor.
@@ -134,10 +124,7 @@ fn spec_with_fragment<'a>(
 fn is_include_tag(tag: &[u8]) -> bool
     ensures includes { result ≡ is_include_form (form_of include_words tag.now) }
 {
-    match parse_include_tag(tag) {
-        IncludeTag::NotInclude => false,
-        _ => true,
-    }
+    !matches!(parse_include_tag(tag), IncludeTag::NotInclude)
 }
 
 /// The path and anchor that a tag and a value name; `None` where the tag is no include tag.
@@ -163,10 +150,7 @@ pub fn is_insert(kind: EventKind, tag: &[u8]) -> bool
     ensures is_the_test { result ≡ is_insert include_words kind tag.now }
     ensures scalar_with_an_include_tag { Decides result ((kind ≡ Scalar) × NamesInclude include_words tag.now) }
 {
-    match kind {
-        EventKind::Scalar => is_include_tag(tag),
-        _ => false,
-    }
+    kind == EventKind::Scalar && is_include_tag(tag)
 }
 
 /// The path and anchor that an event names; `None` where it is no insert.
@@ -178,8 +162,8 @@ pub fn insert<'a>(
     ensures is_the_insert { told result ≡ insert_of include_words kind tag.now value.now }
     ensures answers_exactly_inserts { Decides (is_insert include_words kind tag.now) (told result ≢ Ok None) }
 {
-    match kind {
-        EventKind::Scalar => include_spec_from_tag_and_value(tag, value),
-        _ => Ok(None),
+    if kind != EventKind::Scalar {
+        return Ok(None);
     }
+    include_spec_from_tag_and_value(tag, value)
 }

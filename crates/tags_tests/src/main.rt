@@ -29,20 +29,16 @@ fn answer_line<'a>(
         Ok(None) => String::from_str(heap, "an insert without an answer\n"),
         Ok(Some(spec)) => spec_line(heap, spec),
         Err(error) => {
-            let number = error.number();
+            let number = u32::from(error);
             format!(in heap; "refused\t{number}\n")
         }
     }
 }
 
 fn kind_of(column: Option<&str>) -> Option<EventKind> {
-    let Some(text) = column else {
-        return Some(EventKind::Scalar);
-    };
-    match text.parse::<u32>() {
-        Ok(number) => EventKind::from_number(number),
-        Err(_) => None,
-    }
+    column.map_or(Some(EventKind::Scalar), |text| {
+        EventKind::try_from(text.parse::<u32>().ok()?).ok()
+    })
 }
 
 fn line_for(heap: Global, line: &str) -> Result<String, AllocError> {

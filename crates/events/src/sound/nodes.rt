@@ -1,35 +1,39 @@
 //! The nodes of a sound piece that carry numbers, and the marks that name them.
-ghost use Rattle.std.specs.Prelude.{◌≡◌, ◌≤◌, length};
-ghost use Rattle.events.specs.Tables.{range_at, tabled};
+ghost use Rattle.std.specs.Prelude.{◌≡◌, ◌<◌, IsNone};
+ghost use Rattle.events.specs.Tables.{range_at};
 
 use crate::score::NodeRange;
+use arrayvec::ArrayVec;
+use std::marker::Model;
 
-/// The ranges of the nodes with numbers, found once for a piece: number `k` has the `k`-th of the first `count` ranges.
+/// The ranges of the nodes with numbers, found once for a piece: number `k` has the `k`-th range.
 #[derive(Drop)]
 pub struct NodeTable {
-    ranges: [NodeRange; 256],
-    count: usize,
-    ghost sized: { length ranges ≡ 256 },
-    ghost bounded: { count ≤ 256 },
+    ranges: ArrayVec<NodeRange, 256>,
+}
+
+impl Model for NodeTable {
+    ghost use Rattle.std.specs.Prelude.{List};
+    ghost use Rattle.events.specs.declared.score.NodeRange.{NodeRange as Range};
+
+    ghost Value = { List Range };
+
+    ghost view = { λ t. t.ranges.items };
 }
 
 impl NodeTable {
-    /// A table of the first `count` of the ranges.
-    pub(crate) fn new(ranges: [NodeRange; 256], count: usize) -> NodeTable
-        requires { count ≤ 256 }
-        ensures { tabled result.ranges result.count ≡ tabled ranges count }
+    /// A table of the ranges.
+    pub(crate) fn new(ranges: ArrayVec<NodeRange, 256>) -> NodeTable
+        ensures { result ≡ ranges.items }
     {
-        NodeTable { ranges, count }
+        NodeTable { ranges }
     }
 
     /// The range of the node with a number, if there is one.
     pub fn range(&self, number: usize) -> Option<NodeRange>
-        ensures is_the_range_of_the_number { result ≡ range_at (tabled self.now.ranges self.now.count) number }
+        ensures is_the_range_of_the_number { result ≡ range_at self.now number }
+        ensures no_number_is_above_256 { 256 < number → IsNone result }
     {
-        if number >= 1 && number <= self.count {
-            Some(self.ranges[number - 1])
-        } else {
-            None
-        }
+        self.ranges.get(number.checked_sub(1)?).copied()
     }
 }

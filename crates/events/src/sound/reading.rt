@@ -1,14 +1,15 @@
 //! What is read off a sound piece: its lists, its nodes and its marks.
-ghost use Rattle.std.specs.Prelude.{◌≡◌, ℕ, ◌-◌, ◌^◌, ◌<◌, ◌≤◌, true, length, take, slice_index_or};
+ghost use Rattle.std.specs.Prelude.{◌≡◌, ◌-◌, ◌^◌, ◌<◌, ◌≤◌, length};
 ghost use Rattle.events.specs.Checked.{lists_in, piece_in};
 ghost use Rattle.events.specs.Nodes.{carries, deeper, end_of, ranges_from, AliasesNameNodesBeforeThem, AllNestOrAreDisjoint, OneNodeEach};
-ghost use Rattle.events.specs.Scores.{events_of, kind, marks_of, no_event};
-ghost use Rattle.events.specs.Tables.{FindsLast, last_named, tabled};
+ghost use Rattle.events.specs.Scores.{events_of, kind, marks_of};
+ghost use Rattle.events.specs.Tables.{FindsLast, last_named};
 
 use crate::kinds::EventKind;
 use crate::marks::last_named;
 use crate::score::{Event, Mark, NodeRange, Piece};
 use crate::sound::{NodeTable, SoundPiece};
+use arrayvec::ArrayVec;
 
 impl<'a> SoundPiece<'a> {
     /// The piece that was found sound.
@@ -36,15 +37,24 @@ impl<'a> SoundPiece<'a> {
 
     /// The ranges of the nodes with numbers.
     pub fn nodes(self) -> NodeTable
-        ensures are_the_ranges_of_the_nodes { tabled result.ranges result.count ≡ ranges_from 0 (events_of (lists_in self.entry) (piece_in self.entry)) }
+        ensures are_the_ranges_of_the_nodes { result ≡ ranges_from 0 (events_of (lists_in self.entry) (piece_in self.entry)) }
         ensures one_balanced_node_per_number { OneNodeEach (events_of (lists_in self.entry) (piece_in self.entry)) (piece_in self.entry).marks.len }
-        ensures as_many_ranges_as_marks { length (tabled result.ranges result.count) ≡ (piece_in self.entry).marks.len }
+        ensures as_many_ranges_as_marks { length result ≡ (piece_in self.entry).marks.len }
         ensures ranges_nest_or_are_disjoint { AllNestOrAreDisjoint (events_of (lists_in self.entry) (piece_in self.entry)) (piece_in self.entry).marks.len }
         ensures aliases_name_nodes_before_them { AliasesNameNodesBeforeThem (events_of (lists_in self.entry) (piece_in self.entry)) (piece_in self.entry).marks.len }
     {
-        let mut ranges = [NodeRange { first: 0, last: 0 }; 256];
-        let count = find_ranges(self.events(), &mut ranges);
-        NodeTable::new(ranges, count)
+        let events = self.events();
+        let mut ranges = ArrayVec::new();
+        for (place, event) in events.iter().enumerate() {
+            if carries_number(*event) {
+                let last = node_end(events, place);
+                ranges.push(NodeRange {
+                    first: place as u32,
+                    last: last as u32,
+                });
+            }
+        }
+        NodeTable::new(ranges)
     }
 
     /// The number of the last mark with a name, if any mark has it.
@@ -61,7 +71,7 @@ fn depth_after(event: Event, depth: u32) -> u32
     requires { depth < 2 ^ 32 - 1 }
     ensures { result ≡ deeper (kind event) depth }
 {
-    match EventKind::from_number(event.kind) {
+    match event.kind() {
         Some(kind) => kind.depth_after(depth),
         None => depth,
     }
@@ -69,51 +79,26 @@ fn depth_after(event: Event, depth: u32) -> u32
 
 /// The last place of the node that starts at `start`: its own, or that of the matching end.
 fn node_end(events: &[Event], start: usize) -> usize
-    requires { (end_of events.now start < length events.now) × (length events.now ≤ 8192) }
+    requires { (start ≤ length events.now) × (length events.now ≤ 8192) }
     ensures { result ≡ end_of events.now start }
 {
     let mut depth = 0;
-    let mut place = start;
-    let end = loop {
-        depth = depth_after(events[place], depth);
+    for (offset, event) in events[start..].iter().enumerate() {
+        depth = depth_after(*event, depth);
         if depth == 0 {
-            break place;
+            return start + offset;
         }
-        place += 1;
-    };
-    end
+    }
+    events.len()
 }
 
 /// Whether a node with a number starts at an event.
 fn carries_number(event: Event) -> bool
     ensures { result ≡ carries event }
 {
-    match EventKind::from_number(event.kind) {
-        Some(EventKind::Scalar | EventKind::SequenceStart | EventKind::MappingStart) => {
-            event.anchor != 0
-        }
-        _ => false,
-    }
-}
-
-/// Writes the ranges of the nodes with numbers, in order; answers how many there are.
-fn find_ranges(events: &[Event], ranges: &mut [NodeRange]) -> usize
-    requires few { length events.now ≤ 8192 }
-    requires room { length (ranges_from 0 events.now) ≤ length ranges.old }
-    requires closed { (p : ℕ) → p < length events.now → carries (slice_index_or events.now p no_event) ≡ true → end_of events.now p < length events.now }
-    ensures table { take result ranges.new ≡ ranges_from 0 events.now }
-    ensures count { result ≡ length (ranges_from 0 events.now) }
-{
-    let mut count = 0;
-    for place in 0..events.len() {
-        if carries_number(events[place]) {
-            let last = node_end(events, place);
-            ranges[count] = NodeRange {
-                first: place as u32,
-                last: last as u32,
-            };
-            count += 1;
-        }
-    }
-    count
+    event.anchor != 0
+        && matches!(
+            event.kind(),
+            Some(EventKind::Scalar | EventKind::SequenceStart | EventKind::MappingStart)
+        )
 }

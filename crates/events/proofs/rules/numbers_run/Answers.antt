@@ -1,17 +1,9 @@
-use Rattle.std.proofs.Common.{eqb, sym, ◌∙◌}
+use Rattle.std.proofs.Common.{rules, eqb, ◌∙◌}
 use Rattle.events.specs.Rules.{numbered_at}
-use Rattle.events.specs.Scores.{no_event}
-use Rattle.events.proofs.Loops.{keeps_on, keeps_fails, keeps_ends}
+use Rattle.events.proofs.Loops.{walks_keep, onward_eq}
 use Rattle.events.proofs.rules.numbers_run.Goals as goal
-
-pub returns-in_default : goal.returns-in_default
-returns-in_default c =
-    sym (keeps_fails numbered_at (λ k. eqb k c.args.count) c.args.events.now c.loop-event.highest c.loop-event.highest c.loop-event.event-index no_event c.loop-event-test.true (sym c.in_default.ensures)) ∙ c.loop-event.invariant
-
-pub loop-event-preserved : goal.loop-event-preserved
-loop-event-preserved c =
-    sym (keeps_on numbered_at (λ k. eqb k c.args.count) c.args.events.now c.loop-event.highest c.in-Some.number c.loop-event.event-index no_event c.loop-event-test.true (sym c.in-Some.ensures)) ∙ c.loop-event.invariant
 
 pub returns : goal.returns
 returns c =
-    sym (keeps_ends numbered_at (λ k. eqb k c.args.count) c.args.events.now c.loop-event.highest c.loop-event.highest c.loop-event.event-index no_event c.loop-event-test.false) ∙ c.loop-event.invariant
+    let k = walks_keep numbered_at (λ k. eqb k c.args.count) _ (λ s x o p. search rules) 0 c.args.events.now c.highest_after.result c.highest_after.ensures in
+    c.eq.ensures ∙ onward_eq c.args.count c.highest_after.result ∙ k

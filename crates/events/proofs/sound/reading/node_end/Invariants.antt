@@ -1,9 +1,6 @@
-use Rattle.std.proofs.Common.{◌≡◌, ◌-◌, ◌<◌, ◌≤◌, length, drop}
+use Rattle.std.proofs.Common.{◌≡◌, ◌+◌, ◌≤◌, length, drop}
 use Rattle.events.specs.Nodes.{closing, end_of}
 use Rattle.events.proofs.sound.reading.node_end.Given as goal
 
-abbrev pub invariant-loop-depth : goal.invariant-loop-depth
-invariant-loop-depth l = (closing l.depth l.place (drop l.place l.events) ≡ end_of l.events l.start) × (l.depth ≤ l.place) × (l.place < length l.events)
-
-abbrev pub decreases-loop-depth : goal.decreases-loop-depth
-decreases-loop-depth l = length l.events - l.place
+abbrev pub invariant-loop-offset : goal.invariant-loop-offset
+invariant-loop-offset l = (closing l.depth (l.start + l.offset) (drop l.offset l.event-items) ≡ end_of l.events l.start) × (l.depth ≤ l.offset) × (length l.event-items ≤ 8192)
