@@ -1,7 +1,6 @@
-pub mod Adding
-pub mod Appending
 pub mod Cutting
 pub mod Digits
 pub mod Distinct
 pub mod Gathering
 pub mod Searches
+pub mod Spelling

@@ -7,7 +7,7 @@ use Rattle.book.specs.Said.{Said, SaidDraft}
 use Rattle.book.specs.View.{said_scores}
 
 abbrev pub said_draft : Draft → SaidDraft
-said_draft d = record { main = option_map vec_items d.main; scores = said_scores (vec_items d.scores); withdrawn = vec_items d.withdrawn }
+said_draft d = record { main = option_map vec_items d.main; scores = said_scores (vec_items d.scores.lines); withdrawn = vec_items d.withdrawn }
 
 abbrev pub said : Book → Said
-said b = record { main = vec_items b.main; scores = said_scores (vec_items b.scores); withdrawn = vec_items b.withdrawn }
+said b = record { main = vec_items b.main; scores = said_scores (vec_items b.scores.lines); withdrawn = vec_items b.withdrawn }

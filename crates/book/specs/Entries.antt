@@ -6,7 +6,7 @@ use Rattle.book.specs.declared.faults.BookFault.TheVariants.{UnknownEntry, WordC
 use Rattle.book.specs.Decimal.{number_of}
 use Rattle.book.specs.Words.{first_piece, later_pieces, only_word}
 use Rattle.book.specs.Said.{SaidEntry}
-use Rattle.book.specs.Said.SaidEntry.{nothing, main, score, withdrawn}
+use Rattle.book.specs.Said.SaidEntry.{main, score, withdrawn}
 
 -- the number of a score: one that was read, and is not 0
 abbrev pub nonzero : Option ℕ → Result ℕ BookFault
@@ -53,7 +53,12 @@ abbrev pub entry_by : List ℕ → List (List ℕ) → Result SaidEntry BookFaul
 entry_by word words =
     cond (bytes_eq word (codes "main")) (main_of words) (cond (bytes_eq word (codes "score")) (score_of words) (cond (bytes_eq word (codes "withdrawn")) (withdrawn_of words) (Err UnknownEntry)))
 
+-- an entry that was read is what its line says
+abbrev pub said_by : Result SaidEntry BookFault → Result (Option SaidEntry) BookFault
+said_by (Err fault) = Err fault
+said_by (Ok entry) = Ok (Some entry)
+
 -- what a line says, by its words: a line with none says nothing, and neither does a comment
-abbrev pub entry_of : List (List ℕ) → Result SaidEntry BookFault
-entry_of [] = Ok nothing
-entry_of (word ∷ words) = cond (slice_index word 0 == 35) (Ok nothing) (entry_by word words)
+abbrev pub entry_of : List (List ℕ) → Result (Option SaidEntry) BookFault
+entry_of [] = Ok None
+entry_of (word ∷ words) = cond (slice_index word 0 == 35) (Ok None) (said_by (entry_by word words))

@@ -1,40 +1,40 @@
 -- A book and the lines of its text.
-use Rattle.std.specs.Prelude.{◌≡◌, ℕ, ◌+◌, Bool, true, List, [], ◌∷◌, ◌++◌, is_ok, Ok, Err, Result}
+use Rattle.std.specs.Prelude.{◌≡◌, ℕ, ◌+◌, Bool, true, List, [], ◌∷◌, ◌++◌, is_ok, Some, None, Ok, Err, Option, Result}
+use Rattle.std.specs.List.{list_all}
 use Rattle.book.specs.declared.faults.BookFault.{BookFault}
 use Rattle.book.specs.declared.lines.Withdrawal.{Withdrawal}
 use Rattle.book.specs.Words.{words_of}
 use Rattle.book.specs.Said.{Said, SaidScore, SaidEntry}
-use Rattle.book.specs.Said.SaidEntry.{nothing, main, score, withdrawn}
+use Rattle.book.specs.Said.SaidEntry.{main, score, withdrawn}
 use Rattle.book.specs.Entries.{entry_of}
-use Rattle.book.specs.Lookups.{all}
 
 -- whether a line is an entry, a comment or empty
 abbrev pub is_read : List ℕ → Bool
 is_read line = is_ok (entry_of (words_of line))
 
 -- the file of a `main` line
-abbrev pub mains_of : Result SaidEntry BookFault → List (List ℕ)
+abbrev pub mains_of : Result (Option SaidEntry) BookFault → List (List ℕ)
 mains_of (Err fault) = []
-mains_of (Ok nothing) = []
-mains_of (Ok (main file)) = file ∷ []
-mains_of (Ok (score s)) = []
-mains_of (Ok (withdrawn number)) = []
+mains_of (Ok None) = []
+mains_of (Ok (Some (main file))) = file ∷ []
+mains_of (Ok (Some (score s))) = []
+mains_of (Ok (Some (withdrawn number))) = []
 
 -- the score of a `score` line
-abbrev pub scores_of : Result SaidEntry BookFault → List SaidScore
+abbrev pub scores_of : Result (Option SaidEntry) BookFault → List SaidScore
 scores_of (Err fault) = []
-scores_of (Ok nothing) = []
-scores_of (Ok (main file)) = []
-scores_of (Ok (score s)) = s ∷ []
-scores_of (Ok (withdrawn number)) = []
+scores_of (Ok None) = []
+scores_of (Ok (Some (main file))) = []
+scores_of (Ok (Some (score s))) = s ∷ []
+scores_of (Ok (Some (withdrawn number))) = []
 
 -- the number of a `withdrawn` line, with the line
-abbrev pub withdrawn_at : ℕ → Result SaidEntry BookFault → List Withdrawal
+abbrev pub withdrawn_at : ℕ → Result (Option SaidEntry) BookFault → List Withdrawal
 withdrawn_at line (Err fault) = []
-withdrawn_at line (Ok nothing) = []
-withdrawn_at line (Ok (main file)) = []
-withdrawn_at line (Ok (score s)) = []
-withdrawn_at line (Ok (withdrawn number)) = record { number = number; line = line } ∷ []
+withdrawn_at line (Ok None) = []
+withdrawn_at line (Ok (Some (main file))) = []
+withdrawn_at line (Ok (Some (score s))) = []
+withdrawn_at line (Ok (Some (withdrawn number))) = record { number = number; line = line } ∷ []
 
 -- the entries of each kind, in the order of their lines
 abbrev pub mains_in : List (List ℕ) → List (List ℕ)
@@ -51,7 +51,7 @@ withdrawn_in line (text ∷ texts) = withdrawn_at line (entry_of (words_of text)
 
 -- each line is read, one of them names the main score, and the book has the scores and the withdrawn numbers of the others, in their order
 pub record HasEntries (lines : List (List ℕ)) (b : Said) : Type 0 where
-  pub each_is_read : all is_read lines ≡ true
+  pub each_is_read : list_all is_read lines ≡ true
   pub one_main : mains_in lines ≡ b.main ∷ []
   pub its_scores : scores_in lines ≡ b.scores
   pub its_withdrawn : withdrawn_in 1 lines ≡ b.withdrawn

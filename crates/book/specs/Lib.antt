@@ -1,4 +1,5 @@
 pub mod Words
+pub mod WordsLeft
 pub mod Decimal
 pub mod Said
 pub mod Lookups

@@ -1,13 +1,10 @@
 -- Look-ups among the lines of a book.
-use Rattle.std.specs.Prelude.{ℕ, Bool, true, false, cond, List, [], ◌∷◌, ◌++◌, Some, None, Option, ◌==◌}
+use Rattle.std.specs.Prelude.{ℕ, Bool, true, false, cond, not, List, [], ◌∷◌, ◌++◌, Option, ◌==◌}
+use Rattle.std.specs.List.{find, list_any}
+use Rattle.std.specs.Option.{option_map}
 use Rattle.std.specs.Str.{bytes_eq}
 use Rattle.book.specs.declared.lines.Withdrawal.{Withdrawal}
 use Rattle.book.specs.Said.{SaidScore}
-
--- whether a test passes at an item of a list
-abbrev pub any : {A : Type 0} → (A → Bool) → List A → Bool
-any f [] = false
-any f (x ∷ xs) = cond (f x) true (any f xs)
 
 abbrev pub path_is : List ℕ → SaidScore → Bool
 path_is path score = bytes_eq score.path path
@@ -18,24 +15,18 @@ number_is number score = score.number == number
 abbrev pub withdraws : ℕ → Withdrawal → Bool
 withdraws number entry = entry.number == number
 
--- whether a test passes at each item of a list
-abbrev pub all : {A : Type 0} → (A → Bool) → List A → Bool
-all f [] = true
-all f (x ∷ xs) = cond (f x) (all f xs) false
-
 -- whether a number that is withdrawn is the number of a score
 abbrev pub is_known : List SaidScore → Withdrawal → Bool
-is_known scores entry = any (number_is entry.number) scores
+is_known scores entry = list_any (number_is entry.number) scores
 
 -- the line of the first withdrawal of a number that no score has
 abbrev pub first_unknown : List SaidScore → List Withdrawal → Option ℕ
-first_unknown scores [] = None
-first_unknown scores (entry ∷ entries) = cond (is_known scores entry) (first_unknown scores entries) (Some entry.line)
+first_unknown scores entries = option_map (λ entry. entry.line) (find (λ entry. not (is_known scores entry)) entries)
 
 -- no score has the path of one before it, nor of one of `before`
 abbrev pub fresh_after : List SaidScore → List SaidScore → Bool
 fresh_after before [] = true
-fresh_after before (x ∷ xs) = cond (any (path_is x.path) before) false (fresh_after (before ++ (x ∷ [])) xs)
+fresh_after before (x ∷ xs) = cond (list_any (path_is x.path) before) false (fresh_after (before ++ (x ∷ [])) xs)
 
 abbrev pub distinct : List SaidScore → Bool
 distinct scores = fresh_after [] scores

@@ -8,9 +8,8 @@ pub record SaidScore : Type 0 where
   pub path : List ℕ
   pub file : List ℕ
 
--- what one line says
+-- an entry
 pub data SaidEntry : Type 0 where
-  nothing : SaidEntry
   main : List ℕ → SaidEntry
   score : SaidScore → SaidEntry
   withdrawn : ℕ → SaidEntry

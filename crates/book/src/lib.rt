@@ -8,4 +8,5 @@ pub mod lines;
 pub mod lookups;
 mod numbers;
 pub mod reading;
+pub mod scores;
 mod words;

@@ -3,7 +3,7 @@ ghost use Rattle.std.specs.Prelude.{◌<◌, ◌≤◌, length};
 
 /// A score of the catalogue: its number, the path that inserts name it by, and its file in the folder of the book.
 /// The number is not 0, and the path has 1 to 64 bytes.
-#[derive(Drop)]
+#[derive(Debug, PartialEq, Eq, Drop)]
 pub struct ScoreLine {
     pub number: u32,
     pub path: Vec<u8>,
@@ -14,7 +14,7 @@ pub struct ScoreLine {
 }
 
 /// A number that is withdrawn, and the line that says so, counted from 1.
-#[derive(Clone, Copy)]
+#[derive(Clone, Copy, Debug, PartialEq, Eq)]
 pub struct Withdrawal {
     pub number: u32,
     pub line: usize,

@@ -21,10 +21,7 @@ pub(crate) fn number_of(word: &[u8]) -> Option<u32>
     }
     let mut number = 0;
     for byte in word {
-        let Some(next) = with_digit(number, *byte) else {
-            return None;
-        };
-        number = next;
+        number = with_digit(number, *byte)?;
     }
     Some(number)
 }

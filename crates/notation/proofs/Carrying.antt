@@ -7,6 +7,7 @@ use Rattle.events.specs.declared.score.Span.{Span}
 use Rattle.notation.specs.declared.builder.StockBuilder.{StockBuilder}
 use Rattle.slices.specs.Fields.{is_empty, place_of}
 use Rattle.notation.specs.Lines.{Said, shape_of, is_name, line_of}
+use Rattle.notation.specs.Causes.{line_at}
 use Rattle.notation.specs.Scores.{Grows, Holds, Carries, Unmarked, Naming, Marking, Anchored, Step, Reached, one_more, Ended, ReadThrough, added}
 
 pub holds_put : (xs ys more text : List ℕ) (run : Run) → ys ≡ xs ++ more → more ≡ text → run.start ≡ length xs → run.len ≡ length more → Holds ys run text
@@ -68,9 +69,10 @@ step_from first line spot b c {d = d} l e read put kept held carries marks bytes
       anchored = anchored_stays first l e.anchor b c d marks bytes anchored;
     }
 
-pub reached_more : (first : ℕ) (text : List ℕ) (a : StockBuilder) (i p : ℕ) (b c : StockBuilder) (line : List ℕ) → Reached first text a i b → i < length text → p ≡ place_of 10 (drop i text) → line ≡ take (i + p - i) (drop i text) → Step first line (record { start = i; end = i + p }) b c → Reached first text a (i + p + 1) c
-reached_more first text a i p b c line r l e f s =
-    one_more i (i + p) b c r l (ap (λ n. i + n) e) (subst (λ t. Step first t (record { start = i; end = i + p }) b c) f s)
+pub reached_more : (first : ℕ) (text : List ℕ) (a : StockBuilder) (i : ℕ) (b c : StockBuilder) (line : List ℕ) → Reached first text a i b → i < length text → line ≡ line_at text i → length line ≡ place_of 10 (drop i text) → Step first line (record { start = i; end = i + length line }) b c → Reached first text a (i + length line + 1) c
+reached_more first text a i b c line r l e n s =
+    let cut : line ≡ take (i + length line - i) (drop i text) = e ∙ ap (λ k. take k (drop i text)) (omega (arith, n)) in
+    one_more i (i + length line) b c r l (ap (λ k. i + k) n) (subst (λ t. Step first t (record { start = i; end = i + length line }) b c) cut s)
 
 pub read_through : (f g : ℕ) (text t : List ℕ) (n : ℕ) (a b : StockBuilder) → f ≡ g → t ≡ take n text → Ended text n → ((i : ℕ) × (length t ≤ i) × Reached f t a i b) → ReadThrough g text a b
 read_through f g text t n a b e h ended l =

@@ -1,7 +1,7 @@
 -- One step of reading an escaped value, and that a value reads back as it was written.
-use Rattle.std.proofs.Common.{◌≡◌, ℕ, ◌+◌, ◌<◌, Bool, true, false, cond, eqb, ◌⊎◌, List, [], ◌∷◌, ◌++◌, length, get_or, drop, Some, None, Option, sym, refl, ap, ◌∙◌, subst, inl, inr, ⊎_elim}
-use Rattle.std.proofs.lemmas.List.{drop_more, append_assoc}
-use Rattle.std.proofs.lemmas.Bool.{eq-eqb, ne_eqb, eqb-true, cases_Bool, cond-false}
+use Rattle.std.proofs.Common.{◌≡◌, ℕ, true, false, cond, eqb, ◌⊎◌, List, [], ◌∷◌, ◌++◌, Some, None, Option, sym, refl, ap, ◌∙◌, subst, inl, inr, ⊎_elim}
+use Rattle.std.proofs.lemmas.List.{append_assoc}
+use Rattle.std.proofs.lemmas.Bool.{ne_eqb, eqb-true, cases_Bool, cond-false}
 use Rattle.slices.specs.Fields.{lacks}
 use Rattle.slices.proofs.Places.{lacks_append}
 use Rattle.notation.specs.Escapes.{letter, meant, written, written_by, escaped, behind_bytes, behind_byte, unescaped_from, unescaped}
@@ -14,38 +14,14 @@ pub behind_push : (bs : List ℕ) (b : ℕ) (o : Option (List ℕ)) → behind_b
 behind_push bs b None = refl
 behind_push bs b (Some cs) = ap Some (append_assoc bs (b ∷ []) cs)
 
--- a step of the reading, by what stands at its place
-module _ (text : List ℕ) (i : ℕ) (h : i < length text) where
-  pub step_meant : (bs : List ℕ) (b : ℕ) → Some b ≡ meant (get_or text i 0) → behind_bytes (bs ++ b ∷ []) (unescaped_from false (drop (i + 1) text)) ≡ behind_bytes bs (unescaped_from true (drop i text))
-  step_meant bs b e =
-      behind_push bs b (unescaped_from false (drop (i + 1) text))
-      ∙ ap (λ o. behind_bytes bs (behind_byte o (unescaped_from false (drop (i + 1) text)))) e
-      ∙ ap (λ ys. behind_bytes bs (unescaped_from true ys)) (sym (drop_more text i 0 h))
+-- a step of the reading, by what stands at the front
+pub step_plain : (bs cs : List ℕ) (b : ℕ) → (b ≡ 92 → ⊥) → behind_bytes (bs ++ b ∷ []) (unescaped_from false cs) ≡ behind_bytes bs (unescaped_from false (b ∷ cs))
+step_plain bs cs b e =
+    behind_push bs b (unescaped_from false cs)
+    ∙ ap (λ t. behind_bytes bs (cond t (unescaped_from true cs) (behind_byte (Some b) (unescaped_from false cs)))) (sym (ne_eqb b 92 e))
 
-  pub step_unknown : (bs : List ℕ) → None ≡ meant (get_or text i 0) → behind_bytes bs (unescaped_from true (drop i text)) ≡ None
-  step_unknown bs e =
-      ap (λ ys. behind_bytes bs (unescaped_from true ys)) (drop_more text i 0 h)
-      ∙ ap (λ o. behind_bytes bs (behind_byte o (unescaped_from false (drop (i + 1) text)))) (sym e)
-
-  pub step_open : (bs : List ℕ) → get_or text i 0 ≡ 92 → behind_bytes bs (unescaped_from true (drop (i + 1) text)) ≡ behind_bytes bs (unescaped_from false (drop i text))
-  step_open bs e =
-      ap (λ t. behind_bytes bs (cond t (unescaped_from true (drop (i + 1) text)) (behind_byte (Some (get_or text i 0)) (unescaped_from false (drop (i + 1) text))))) (sym (eq-eqb (get_or text i 0) 92 e))
-      ∙ ap (λ ys. behind_bytes bs (unescaped_from false ys)) (sym (drop_more text i 0 h))
-
-  pub step_plain : (bs : List ℕ) → (get_or text i 0 ≡ 92 → ⊥) → behind_bytes (bs ++ get_or text i 0 ∷ []) (unescaped_from false (drop (i + 1) text)) ≡ behind_bytes bs (unescaped_from false (drop i text))
-  step_plain bs e =
-      behind_push bs (get_or text i 0) (unescaped_from false (drop (i + 1) text))
-      ∙ ap (λ t. behind_bytes bs (cond t (unescaped_from true (drop (i + 1) text)) (behind_byte (Some (get_or text i 0)) (unescaped_from false (drop (i + 1) text))))) (sym (ne_eqb (get_or text i 0) 92 e))
-      ∙ ap (λ ys. behind_bytes bs (unescaped_from false ys)) (sym (drop_more text i 0 h))
-
--- a turn of the reading: what was read and whether a backslash came before, at its start and at its end
-pub turned : (text : List ℕ) (i : ℕ) (bs cs ds : List ℕ) (old new o p : Bool) → ds ≡ cs → new ≡ p → old ≡ o → behind_bytes cs (unescaped_from p (drop (i + 1) text)) ≡ behind_bytes bs (unescaped_from o (drop i text)) → behind_bytes bs (unescaped_from old (drop i text)) ≡ unescaped text → behind_bytes ds (unescaped_from new (drop (i + 1) text)) ≡ unescaped text
-turned text i bs cs ds old new o p d n e step inv =
-    ap (λ l. behind_bytes l (unescaped_from new (drop (i + 1) text))) d
-    ∙ ap (λ t. behind_bytes cs (unescaped_from t (drop (i + 1) text))) n
-    ∙ step
-    ∙ ap (λ t. behind_bytes bs (unescaped_from t (drop i text))) (sym e)
-    ∙ inv
+pub step_escape : (bs cs : List ℕ) (c b : ℕ) → Some b ≡ meant c → behind_bytes (bs ++ b ∷ []) (unescaped_from false cs) ≡ behind_bytes bs (unescaped_from false (92 ∷ c ∷ cs))
+step_escape bs cs c b e = behind_push bs b (unescaped_from false cs) ∙ ap (λ o. behind_bytes bs (behind_byte o (unescaped_from false cs))) e
 
 -- a byte has a letter that means it, or none and then it is no backslash and no line feed
 abbrev LetterCase : ℕ → Type 0

@@ -1,7 +1,10 @@
 -- Causes of a refusal, carried from one call to the one around it.
-use Rattle.std.proofs.Common.{◌≡◌, ℕ, suc, ◌+◌, ◌-◌, ◌<◌, Bool, true, false, cond, eqb, ◌⊎◌, List, [], ◌∷◌, ◌++◌, length, take, drop, IsErrAnd, Ok, Err, vec_len, Result, sym, refl, ap, ◌∙◌, subst, inl, inr, arith, length-append, length-drop}
+use Rattle.std.proofs.Common.{◌≡◌, ℕ, suc, ◌+◌, ◌-◌, ◌<◌, ◌≤◌, Bool, true, false, cond, eqb, ◌⊎◌, List, [], ◌∷◌, ◌++◌, length, take, drop, IsErrAnd, Ok, Err, vec_len, Result, sym, refl, ap, ◌∙◌, subst, inl, inr, arith, length-append, length-drop}
 use Rattle.std.proofs.lemmas.Result.{err_from_is_err_and}
-use Rattle.std.proofs.lemmas.List.{append_assoc, take-append-drop, take-take, drop-take, take_rest}
+use Rattle.std.proofs.lemmas.List.{append_assoc, take-append-drop, take-take, drop-take, take_rest, drop-drop, length-take-le}
+use Rattle.slices.specs.Lines.{lines_of}
+use Rattle.slices.proofs.Cutting.{line_begun}
+use Rattle.slices.proofs.Places.{place_within}
 use Rattle.notation.specs.declared.line.LineError.{LineError}
 use Rattle.notation.specs.declared.line.LineError.TheVariants.{LineBreak, UnknownOpener, EmptyName, UnclosedTag, BadProperty, MissingValue, BadStyle, BadEscape, TrailingText, OutOfMemory as line_memory}
 use Rattle.notation.specs.declared.fault.TextFault.{TextFault}
@@ -109,16 +112,37 @@ feeds_more text i p e l =
     ∙ feeds_append (take i text) (take (place_of 10 d + 1) d)
     ∙ ap (λ m. line_feeds (take i text) + m) (feeds_first d k)
 
--- the line that was given to be read is the line at its place
-pub line_at_lem : (text : List ℕ) (i p : ℕ) (rest line : List ℕ) → rest ≡ drop i text → p ≡ place_of 10 rest → line ≡ take (i + p - i) rest → line ≡ line_at text i
-line_at_lem text i p rest line r e f =
-    let n : i + p - i ≡ place_of 10 rest = omega (arith, e) in
-    f ∙ ap (λ m. take m rest) n ∙ ap (λ t. take (place_of 10 t) t) r
-
 pub stopped_before : {m v : ℕ} {t : List ℕ} (text : List ℕ) (a : StockBuilder) (e : TextError) (n : ℕ) → m ≡ vec_len a.marks → v ≡ vec_len a.events → t ≡ take n text → Ended text n → Stopped m v t a e → StoppedBefore text a e
 stopped_before {m = m} {v = v} {t = t} text a e n p q r ended s =
     record {
       end = n;
       ended = ended;
       stopped = subst (λ k. Stopped k (vec_len a.events) (take n text) a e) p (subst (λ k. Stopped m k (take n text) a e) q (subst (λ (k : List ℕ). Stopped m v k a e) r s));
+    }
+
+-- a list of events that is full, or memory that ran out, is the cause of its fault
+pub events_filled : (N B M : Type 0) (first n m : ℕ) (f : TextFault) → n ≡ m → (f ≡ OutOfMemory) ⊎ ((f ≡ TooManyEvents) × EventsFull first n) → ForLists N B M (EventsFull first m) f
+events_filled N B M first n m f e (inl h) = subst (ForLists N B M (EventsFull first m)) (sym h) tt
+events_filled N B M first n m f e (inr h) = subst (ForLists N B M (EventsFull first m)) (sym h.0) (subst (EventsFull first) e h.1)
+
+-- the line at a place of a text, and those behind it
+pub record LineHere (text line : List ℕ) (rest : List (List ℕ)) (start : ℕ) : Type 0 where
+  pub inside : start < length text
+  pub is : line ≡ line_at text start
+  pub len : length line ≡ place_of 10 (drop start text)
+  pub within : start + length line ≤ length text
+  pub later : rest ≡ lines_of (drop (start + length line + 1) text)
+
+pub line_here : (text line : List ℕ) (rest : List (List ℕ)) (start : ℕ) → lines_of (drop start text) ≡ line ∷ rest → LineHere text line rest start
+line_here text line rest start e =
+    let d = drop start text in
+    let b = line_begun d line rest e in
+    let w = place_within 10 d in
+    let len : length line ≡ place_of 10 d = ap length b.is ∙ length-take-le (place_of 10 d) d w in
+    record {
+      inside = omega (arith, b.some, length-drop start text);
+      is = b.is;
+      len = len;
+      within = omega (arith, b.some, len, w, length-drop start text);
+      later = b.later ∙ ap lines_of (ap (drop 1) (drop-drop (place_of 10 d) start text) ∙ drop-drop 1 (start + place_of 10 d) text ∙ ap (λ n. drop n text) (omega (arith, len)));
     }

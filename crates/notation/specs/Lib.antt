@@ -3,3 +3,4 @@ pub mod Lines
 pub mod View
 pub mod Scores
 pub mod Causes
+pub mod Limits

@@ -1,5 +1,6 @@
 -- What a line of event notation says, how it is written, and how it is read.
 use Rattle.std.specs.Prelude.{ℕ, ◌+◌, Bool, true, false, cond, not, ◌&&◌, List, [], ◌∷◌, ◌++◌, length, take, drop, Some, None, Ok, Err, codes, Option, Result, ◌==◌, slice_index}
+use Rattle.std.specs.List.{find}
 use Rattle.std.specs.Str.{bytes_eq}
 use Rattle.events.specs.declared.kinds.EventKind.{EventKind}
 use Rattle.events.specs.declared.kinds.EventKind.TheVariants.{StreamStart, StreamEnd, DocumentStart, DocumentEnd, Alias, Scalar, SequenceStart, SequenceEnd, MappingStart, MappingEnd}
@@ -132,19 +133,12 @@ shown l = opener l.kind ++ shown_rest l
 
 -- READING
 
+abbrev pub kinds : List EventKind
+kinds = StreamStart ∷ StreamEnd ∷ DocumentStart ∷ DocumentEnd ∷ Alias ∷ Scalar ∷ SequenceStart ∷ SequenceEnd ∷ MappingStart ∷ MappingEnd ∷ []
+
 -- the kind whose opener the bytes are
 abbrev pub kind_of : List ℕ → Option EventKind
-kind_of xs =
-    cond (bytes_eq xs (opener StreamStart)) (Some StreamStart)
-    (cond (bytes_eq xs (opener StreamEnd)) (Some StreamEnd)
-    (cond (bytes_eq xs (opener DocumentStart)) (Some DocumentStart)
-    (cond (bytes_eq xs (opener DocumentEnd)) (Some DocumentEnd)
-    (cond (bytes_eq xs (opener Alias)) (Some Alias)
-    (cond (bytes_eq xs (opener Scalar)) (Some Scalar)
-    (cond (bytes_eq xs (opener SequenceStart)) (Some SequenceStart)
-    (cond (bytes_eq xs (opener SequenceEnd)) (Some SequenceEnd)
-    (cond (bytes_eq xs (opener MappingStart)) (Some MappingStart)
-    (cond (bytes_eq xs (opener MappingEnd)) (Some MappingEnd) None)))))))))
+kind_of xs = find (λ k. bytes_eq xs (opener k)) kinds
 
 -- the style of a byte
 abbrev pub style_of : ℕ → Option ScalarStyle

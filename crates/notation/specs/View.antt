@@ -2,7 +2,7 @@
 use Rattle.std.specs.Prelude.{Ok, Err, vec_items, Result}
 use Rattle.notation.specs.declared.line.Line.{Line}
 use Rattle.notation.specs.declared.line.LineError.{LineError}
-use Rattle.notation.specs.declared.parts.Field.{Field}
+use Rattle.slices.specs.declared.Cut.{Cut}
 use Rattle.notation.specs.declared.parts.StyledText.{StyledText}
 use Rattle.notation.specs.declared.parts.Parts.{Parts}
 use Rattle.notation.specs.Lines.{Said, Part, Valued}
@@ -10,8 +10,8 @@ use Rattle.notation.specs.Lines.{Said, Part, Valued}
 abbrev pub said : Line → Said
 said l = record { kind = l.kind; anchor = vec_items l.anchor; tag = vec_items l.tag; style = l.style; value = vec_items l.value }
 
-abbrev pub part_of : Field → Part
-part_of f = record { text = f.text.now; rest = f.rest.now }
+abbrev pub part_of : Cut → Part
+part_of f = record { text = f.piece.now; rest = f.rest.now }
 
 abbrev pub valued_of : StyledText → Valued
 valued_of v = record { style = v.style; text = v.text.now }

@@ -11,7 +11,9 @@ pub struct StockBuilder {
     bytes: Vec<u8>,
     marks: Vec<Mark>,
     events: Vec<Event>,
-    ghost within: { (vec_len bytes ≤ 1048576) × (vec_len marks ≤ 4096) × (vec_len events ≤ 65536) },
+    ghost at_most_1048576_bytes: { vec_len bytes ≤ 1048576 },
+    ghost at_most_4096_marks: { vec_len marks ≤ 4096 },
+    ghost at_most_65536_events: { vec_len events ≤ 65536 },
 }
 
 pub mod scores;

@@ -40,22 +40,15 @@ pub(crate) fn unescape(heap: Global, text: &[u8]) -> Result<Vec<u8>, LineError>
     ensures value { MatchResult result (λ v. unescaped text.now ≡ Some v.items) (λ e. (e ≡ OutOfMemory) ⊎ ((e ≡ BadEscape) × (unescaped text.now ≡ None))) }
 {
     let mut out = Vec::new(heap);
-    let mut open = false;
-    for b in text {
-        if open {
-            let Some(byte) = meant_by(*b) else {
-                return Err(LineError::BadEscape);
-            };
+    let mut bytes = text.iter();
+    while let Some(&byte) = bytes.next() {
+        if byte != b'\\' {
             out.push(byte)?;
-            open = false;
-        } else if *b == b'\\' {
-            open = true;
-        } else {
-            out.push(*b)?;
+            continue;
         }
-    }
-    if open {
-        return Err(LineError::BadEscape);
+        let letter = bytes.next().ok_or(LineError::BadEscape)?;
+        let meant = meant_by(*letter).ok_or(LineError::BadEscape)?;
+        out.push(meant)?;
     }
     Ok(out)
 }

@@ -5,34 +5,43 @@ ghost use Rattle.notation.specs.declared.fault.TextFault.TheVariants.{OutOfMemor
 
 use crate::line::LineError;
 use std::alloc::{AllocError, AllocFailed};
-use std::fmt;
+use thiserror::Error;
 
 /// Why a score could not be added.
-#[derive(Clone, Copy)]
+#[derive(Clone, Copy, Debug, PartialEq, Eq, Error)]
 pub enum TextFault {
     /// A line could not be read.
+    #[error("{0}")]
     Line(LineError),
     /// An alias names an anchor that no line before it in this score has.
+    #[error("alias to an unknown anchor")]
     UnknownAnchor,
     /// The bytes of the stock would be more than 1,048,576.
+    #[error("too many bytes")]
     TooManyBytes,
     /// The marks would be more than 256 in the score or more than 4,096 in the stock.
+    #[error("too many anchors")]
     TooManyMarks,
     /// The events would be more than 8,192 in the score or more than 65,536 in the stock.
+    #[error("too many events")]
     TooManyEvents,
     /// The text is longer than 1,048,576 bytes.
+    #[error("the text is too long")]
     TextTooLong,
     /// No memory was left.
+    #[error("out of memory")]
     OutOfMemory,
 }
 
 /// Why a score could not be added, and at which line of its text, counted from 1. A text that is too long is refused at line 1.
-#[derive(Clone, Copy)]
+#[derive(Clone, Copy, Debug, PartialEq, Eq, Error)]
+#[error("line {line}: {fault}")]
 pub struct TextError {
     pub line: usize,
     pub fault: TextFault,
 }
 
+// By hand, here and below: clauses name the error that `?` makes, and a derived `From` has no clause.
 impl From<LineError> for TextFault {
     ghost from_gives = { λ e r. r ≡ fault_of e };
 
@@ -57,27 +66,5 @@ impl<T: Drop> From<AllocFailed<T>> for TextFault {
 
     fn from(_e: AllocFailed<T>) -> TextFault {
         TextFault::OutOfMemory
-    }
-}
-
-impl fmt::Display for TextFault {
-    fn fmt<W: fmt::Write>(&self, f: &mut fmt::Formatter<W>) -> fmt::Result {
-        match self {
-            TextFault::Line(e) => write!(f, "{e}"),
-            TextFault::UnknownAnchor => f.write_str("alias to an unknown anchor"),
-            TextFault::TooManyBytes => f.write_str("too many bytes"),
-            TextFault::TooManyMarks => f.write_str("too many anchors"),
-            TextFault::TooManyEvents => f.write_str("too many events"),
-            TextFault::TextTooLong => f.write_str("the text is too long"),
-            TextFault::OutOfMemory => f.write_str("out of memory"),
-        }
-    }
-}
-
-impl fmt::Display for TextError {
-    fn fmt<W: fmt::Write>(&self, f: &mut fmt::Formatter<W>) -> fmt::Result {
-        let line = self.line;
-        let fault = self.fault;
-        write!(f, "line {line}: {fault}")
     }
 }

@@ -4,7 +4,19 @@ ghost use Rattle.notation.specs.Lines.{opener, extra, shape_of, name_mark, style
 
 use crate::parts::Shape;
 use events::kinds::{EventKind, ScalarStyle};
-use slices::{empty, same};
+
+const KINDS: [EventKind; 10] = [
+    EventKind::StreamStart,
+    EventKind::StreamEnd,
+    EventKind::DocumentStart,
+    EventKind::DocumentEnd,
+    EventKind::Alias,
+    EventKind::Scalar,
+    EventKind::SequenceStart,
+    EventKind::SequenceEnd,
+    EventKind::MappingStart,
+    EventKind::MappingEnd,
+];
 
 /// The four bytes that a line of a kind begins with.
 pub(crate) fn opener_of(kind: EventKind) -> &'static [u8]
@@ -28,37 +40,7 @@ pub(crate) fn opener_of(kind: EventKind) -> &'static [u8]
 pub(crate) fn kind_of(bytes: &[u8]) -> Option<EventKind>
     ensures value { result ≡ kind_of bytes.now }
 {
-    if same(bytes, b"+STR") {
-        return Some(EventKind::StreamStart);
-    }
-    if same(bytes, b"-STR") {
-        return Some(EventKind::StreamEnd);
-    }
-    if same(bytes, b"+DOC") {
-        return Some(EventKind::DocumentStart);
-    }
-    if same(bytes, b"-DOC") {
-        return Some(EventKind::DocumentEnd);
-    }
-    if same(bytes, b"=ALI") {
-        return Some(EventKind::Alias);
-    }
-    if same(bytes, b"=VAL") {
-        return Some(EventKind::Scalar);
-    }
-    if same(bytes, b"+SEQ") {
-        return Some(EventKind::SequenceStart);
-    }
-    if same(bytes, b"-SEQ") {
-        return Some(EventKind::SequenceEnd);
-    }
-    if same(bytes, b"+MAP") {
-        return Some(EventKind::MappingStart);
-    }
-    if same(bytes, b"-MAP") {
-        return Some(EventKind::MappingEnd);
-    }
-    None
+    KINDS.iter().copied().find(|&kind| bytes == opener_of(kind))
 }
 
 /// What may stand right behind the opener and says nothing.
@@ -100,7 +82,7 @@ pub(crate) fn name_mark(shape: Shape) -> u8
 pub(crate) fn is_alias(kind: EventKind) -> bool
     ensures value { result ≡ is_name (shape_of kind) }
 {
-    matches!(kind, EventKind::Alias)
+    kind == EventKind::Alias
 }
 
 /// The byte of a style.
@@ -135,8 +117,8 @@ pub(crate) fn fits(shape: Shape, anchor: &[u8], tag: &[u8]) -> bool
     ensures value { result ≡ fitting shape anchor.now tag.now }
 {
     match shape {
-        Shape::Bare => empty(anchor) && empty(tag),
-        Shape::Name => !empty(anchor) && empty(tag),
+        Shape::Bare => anchor.is_empty() && tag.is_empty(),
+        Shape::Name => !anchor.is_empty() && tag.is_empty(),
         _ => true,
     }
 }

@@ -5,11 +5,11 @@ ghost use Rattle.notation.specs.declared.line.PrintError.TheVariants.{OutOfMemor
 
 use events::kinds::{EventKind, ScalarStyle};
 use std::alloc::{AllocError, AllocFailed};
-use std::fmt;
+use thiserror::Error;
 
 /// What a line says. An empty `anchor` is no anchor, and an empty `tag` no tag. On an alias, `anchor` is the name that it names.
 /// `style` and `value` are those of a scalar; on any other line they are `Plain` and empty.
-#[derive(Drop)]
+#[derive(Debug, PartialEq, Eq, Drop)]
 pub struct Line {
     pub kind: EventKind,
     pub anchor: Vec<u8>,
@@ -19,39 +19,52 @@ pub struct Line {
 }
 
 /// Why a line could not be read.
-#[derive(Clone, Copy)]
+#[derive(Clone, Copy, Debug, PartialEq, Eq, Error)]
 pub enum LineError {
     /// The text has a line break, so that it is not one line.
+    #[error("a line break inside a line")]
     LineBreak,
     /// The first four bytes are no opener, as `+MAP` or `=VAL` is.
+    #[error("unknown opener")]
     UnknownOpener,
     /// `&`, `*` or `<` with no name behind it.
+    #[error("empty name")]
     EmptyName,
     /// A tag that is not closed by `>`.
+    #[error("tag without its closing '>'")]
     UnclosedTag,
     /// An anchor or a tag on a line that takes none, or an alias that names nothing.
+    #[error("an anchor, a tag or a name is missing or out of place")]
     BadProperty,
     /// A scalar with no value.
+    #[error("scalar without a value")]
     MissingValue,
     /// A value that does not begin with one of `:`, `'`, `"`, `|` and `>`.
+    #[error("unknown style of a scalar")]
     BadStyle,
     /// A backslash before a byte that it gives no meaning, or at the end.
+    #[error("unknown escape")]
     BadEscape,
     /// Text behind the end of a line that is no scalar.
+    #[error("text behind the end of the line")]
     TrailingText,
     /// No memory was left.
+    #[error("out of memory")]
     OutOfMemory,
 }
 
 /// Why a line could not be printed.
-#[derive(Clone, Copy)]
+#[derive(Clone, Copy, Debug, PartialEq, Eq, Error)]
 pub enum PrintError {
     /// Printed, the line would not read back as it is.
+    #[error("the line would not read back")]
     Unprintable,
     /// No memory was left.
+    #[error("out of memory")]
     OutOfMemory,
 }
 
+// By hand, here and below: clauses name the error that `?` makes, and a derived `From` has no clause.
 impl From<AllocError> for LineError {
     ghost from_gives = { λ _ r. r ≡ line_memory };
 
@@ -81,33 +94,5 @@ impl<T: Drop> From<AllocFailed<T>> for PrintError {
 
     fn from(_e: AllocFailed<T>) -> PrintError {
         PrintError::OutOfMemory
-    }
-}
-
-impl fmt::Display for LineError {
-    fn fmt<W: fmt::Write>(&self, f: &mut fmt::Formatter<W>) -> fmt::Result {
-        let words = match self {
-            LineError::LineBreak => "a line break inside a line",
-            LineError::UnknownOpener => "unknown opener",
-            LineError::EmptyName => "empty name",
-            LineError::UnclosedTag => "tag without its closing '>'",
-            LineError::BadProperty => "an anchor, a tag or a name is missing or out of place",
-            LineError::MissingValue => "scalar without a value",
-            LineError::BadStyle => "unknown style of a scalar",
-            LineError::BadEscape => "unknown escape",
-            LineError::TrailingText => "text behind the end of the line",
-            LineError::OutOfMemory => "out of memory",
-        };
-        f.write_str(words)
-    }
-}
-
-impl fmt::Display for PrintError {
-    fn fmt<W: fmt::Write>(&self, f: &mut fmt::Formatter<W>) -> fmt::Result {
-        let words = match self {
-            PrintError::Unprintable => "the line would not read back",
-            PrintError::OutOfMemory => "out of memory",
-        };
-        f.write_str(words)
     }
 }

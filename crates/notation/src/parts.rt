@@ -2,7 +2,7 @@
 use events::kinds::{EventKind, ScalarStyle};
 
 /// What stands behind the opener of a line.
-#[derive(Clone, Copy)]
+#[derive(Clone, Copy, Debug, PartialEq, Eq)]
 pub enum Shape {
     /// Nothing.
     Bare,
@@ -14,22 +14,15 @@ pub enum Shape {
     Name,
 }
 
-/// A part of a line, and what stands behind it.
-#[derive(Clone, Copy)]
-pub struct Field<'a> {
-    pub text: &'a [u8],
-    pub rest: &'a [u8],
-}
-
 /// The style of a scalar, and its value as it is written.
-#[derive(Clone, Copy)]
+#[derive(Clone, Copy, Debug, PartialEq, Eq)]
 pub struct StyledText<'a> {
     pub style: ScalarStyle,
     pub text: &'a [u8],
 }
 
 /// All parts of a line; the value is still escaped.
-#[derive(Clone, Copy)]
+#[derive(Clone, Copy, Debug, PartialEq, Eq)]
 pub struct Parts<'a> {
     pub kind: EventKind,
     pub anchor: &'a [u8],

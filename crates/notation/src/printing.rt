@@ -9,7 +9,7 @@ use crate::forms::{fits, name_mark, opener_of, shape_of, style_byte};
 use crate::line::{Line, PrintError};
 use crate::parts::Shape;
 use events::kinds::ScalarStyle;
-use slices::{empty, lacks};
+use slices::lacks;
 use std::alloc::Global;
 
 fn value_fits(shape: Shape, style: ScalarStyle, value: &[u8]) -> bool
@@ -17,7 +17,7 @@ fn value_fits(shape: Shape, style: ScalarStyle, value: &[u8]) -> bool
 {
     match (shape, style) {
         (Shape::Value, _) => true,
-        (_, ScalarStyle::Plain) => empty(value),
+        (_, ScalarStyle::Plain) => value.is_empty(),
         _ => false,
     }
 }
@@ -40,7 +40,7 @@ pub fn is_printable(line: &Line) -> bool
 fn push_name(out: &mut Vec<u8>, mark: u8, name: &[u8]) -> Result<(), PrintError>
     ensures value { MatchResult result (λ _. out.new.items ≡ out.old.items ++ shown_name mark name.now) (λ e. e ≡ OutOfMemory) }
 {
-    if !empty(name) {
+    if !name.is_empty() {
         out.extend_from_slice(&[b' ', mark])?;
         out.extend_from_slice(name)?;
     }
@@ -50,7 +50,7 @@ fn push_name(out: &mut Vec<u8>, mark: u8, name: &[u8]) -> Result<(), PrintError>
 fn push_tag(out: &mut Vec<u8>, tag: &[u8]) -> Result<(), PrintError>
     ensures value { MatchResult result (λ _. out.new.items ≡ out.old.items ++ shown_tag tag.now) (λ e. e ≡ OutOfMemory) }
 {
-    if !empty(tag) {
+    if !tag.is_empty() {
         out.extend_from_slice(b" <")?;
         out.extend_from_slice(tag)?;
         out.push(b'>')?;

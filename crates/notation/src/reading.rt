@@ -7,44 +7,44 @@ ghost use Rattle.notation.specs.declared.line.LineError.TheVariants.{OutOfMemory
 use crate::escapes::unescape;
 use crate::forms::{extra_of, fits, kind_of, name_mark, shape_of, style_of};
 use crate::line::{Line, LineError};
-use crate::parts::{Field, Parts, Shape, StyledText};
+use crate::parts::{Parts, Shape, StyledText};
 use events::kinds::{EventKind, ScalarStyle};
-use slices::{behind, byte_at, empty, front, lacks, marked, place_of, same};
+use slices::{Cut, behind, byte_at, cut_at, front, lacks, marked, place_of};
 use std::alloc::Global;
 
 fn without_extra(kind: EventKind, rest: &[u8]) -> &[u8]
     ensures value { result.now ≡ without_extra kind rest.now }
 {
     let extra = extra_of(kind);
-    if same(front(rest, extra.len()), extra) {
+    if front(rest, extra.len()) == extra {
         return behind(rest, extra.len());
     }
     rest
 }
 
-fn named_in(s: &[u8]) -> Result<Field<'_>, LineError>
+fn named_in(s: &[u8]) -> Result<Cut<'_>, LineError>
     ensures value { map_ok part_of result ≡ named_in s.now }
 {
     let end = place_of(s, b' ');
     if end == 0 {
         return Err(LineError::EmptyName);
     }
-    Ok(Field {
-        text: front(s, end),
-        rest: behind(s, end),
-    })
+    Ok(cut_at(s, end))
 }
 
-fn name_in(mark: u8, s: &[u8]) -> Result<Field<'_>, LineError>
+fn name_in(mark: u8, s: &[u8]) -> Result<Cut<'_>, LineError>
     ensures value { map_ok part_of result ≡ name_in mark s.now }
 {
     if marked(s, mark) {
         return named_in(behind(s, 2));
     }
-    Ok(Field { text: b"", rest: s })
+    Ok(Cut {
+        piece: b"",
+        rest: s,
+    })
 }
 
-fn tagged_in(s: &[u8]) -> Result<Field<'_>, LineError>
+fn tagged_in(s: &[u8]) -> Result<Cut<'_>, LineError>
     ensures value { map_ok part_of result ≡ tagged_in s.now }
 {
     if lacks(s, b'>') {
@@ -54,19 +54,22 @@ fn tagged_in(s: &[u8]) -> Result<Field<'_>, LineError>
     if end == 0 {
         return Err(LineError::EmptyName);
     }
-    Ok(Field {
-        text: front(s, end),
+    Ok(Cut {
+        piece: front(s, end),
         rest: behind(s, end + 1),
     })
 }
 
-fn tag_in(s: &[u8]) -> Result<Field<'_>, LineError>
+fn tag_in(s: &[u8]) -> Result<Cut<'_>, LineError>
     ensures value { map_ok part_of result ≡ tag_in s.now }
 {
     if marked(s, b'<') {
         return tagged_in(behind(s, 2));
     }
-    Ok(Field { text: b"", rest: s })
+    Ok(Cut {
+        piece: b"",
+        rest: s,
+    })
 }
 
 fn scalar_in(s: &[u8]) -> Result<StyledText<'_>, LineError>
@@ -75,19 +78,17 @@ fn scalar_in(s: &[u8]) -> Result<StyledText<'_>, LineError>
     if byte_at(s, 0) != b' ' {
         return Err(LineError::MissingValue);
     }
-    match style_of(byte_at(s, 1)) {
-        Some(style) => Ok(StyledText {
-            style,
-            text: behind(s, 2),
-        }),
-        None => Err(LineError::BadStyle),
-    }
+    let style = style_of(byte_at(s, 1)).ok_or(LineError::BadStyle)?;
+    Ok(StyledText {
+        style,
+        text: behind(s, 2),
+    })
 }
 
 fn end_in(s: &[u8]) -> Result<StyledText<'_>, LineError>
     ensures value { map_ok valued_of result ≡ end_in s.now }
 {
-    if empty(s) {
+    if s.is_empty() {
         return Ok(StyledText {
             style: ScalarStyle::Plain,
             text: b"",
@@ -112,13 +113,13 @@ fn rest_of(kind: EventKind, s: &[u8]) -> Result<Parts<'_>, LineError>
     let name = name_in(name_mark(shape), s)?;
     let tag = tag_in(name.rest)?;
     let value = value_in(shape, tag.rest)?;
-    if !fits(shape, name.text, tag.text) {
+    if !fits(shape, name.piece, tag.piece) {
         return Err(LineError::BadProperty);
     }
     Ok(Parts {
         kind,
-        anchor: name.text,
-        tag: tag.text,
+        anchor: name.piece,
+        tag: tag.piece,
         style: value.style,
         value: value.text,
     })
@@ -128,9 +129,7 @@ fn rest_of(kind: EventKind, s: &[u8]) -> Result<Parts<'_>, LineError>
 fn parts_of(bytes: &[u8]) -> Result<Parts<'_>, LineError>
     ensures value { map_ok said_parts result ≡ parts_of bytes.now }
 {
-    let Some(kind) = kind_of(front(bytes, 4)) else {
-        return Err(LineError::UnknownOpener);
-    };
+    let kind = kind_of(front(bytes, 4)).ok_or(LineError::UnknownOpener)?;
     rest_of(kind, without_extra(kind, behind(bytes, 4)))
 }
 

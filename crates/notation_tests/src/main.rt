@@ -2,19 +2,21 @@
 //! A line `====` ends a score.
 #![tactic(auto)]
 
-ghost use Rattle.std.specs.Prelude.{◌≤◌, length};
-
 use anyhow::anyhow;
 use events::kinds::{EventKind, ScalarStyle};
-use events::score::{Run, Stock};
+use events::score::{Piece, Run, Stock};
 use notation::builder::StockBuilder;
 use notation::line::Line;
 use notation::printing::print_line;
 use notation::reading::read_line;
-use slices::{behind, front, place_of, same};
+use slices::lines::Lines;
+use slices::{behind, front};
 use std::io::Read;
 
 const MAX_INPUT: usize = 1_048_576;
+
+/// The line that ends a score.
+const SCORE_END: &[u8] = b"====";
 
 /// Prints a line again, or why it cannot be printed.
 fn show_again(rt: &HostRuntime, line: &Line) -> anyhow::Result<()> {
@@ -37,8 +39,8 @@ fn show_line(rt: &HostRuntime, text: &[u8]) -> anyhow::Result<()> {
             return Ok(());
         }
     };
-    let kind = line.kind.number();
-    let style = line.style.number();
+    let kind = u32::from(line.kind);
+    let style = u32::from(line.style);
     let anchor = String::from_utf8_lossy(rt.alloc(), line.anchor.as_slice())?;
     let tag = String::from_utf8_lossy(rt.alloc(), line.tag.as_slice())?;
     let value = String::from_utf8_lossy(rt.alloc(), line.value.as_slice())?;
@@ -90,52 +92,49 @@ fn show_marks(rt: &HostRuntime, stock: Stock<'_>, run: Run) -> anyhow::Result<()
     Ok(())
 }
 
-/// Adds a score, and shows its piece or why it was refused.
-fn show_score(rt: &HostRuntime, builder: &mut StockBuilder, text: &[u8]) -> anyhow::Result<()> {
+/// Adds a score, or shows why it was refused.
+fn add(rt: &HostRuntime, builder: &mut StockBuilder, text: &[u8]) -> anyhow::Result<Option<Piece>> {
     match builder.add_score(text) {
-        Ok(piece) => {
-            let marks = piece.marks;
-            let events = piece.events;
-            let text_len = piece.text_len;
-            let marks_start = marks.start;
-            let marks_len = marks.len;
-            let events_start = events.start;
-            let events_len = events.len;
-            println!(rt;
-                "piece: marks {marks_start}+{marks_len} events {events_start}+{events_len} text {text_len}"
-            )?;
-            show_marks(rt, builder.stock(), marks)?;
-            show_events(rt, builder.stock(), events)
-        }
+        Ok(piece) => Ok(Some(piece)),
         Err(e) => {
             println!(rt; "refused: {e}")?;
-            Ok(())
+            Ok(None)
         }
     }
 }
 
+/// Adds a score, and shows its piece or why it was refused.
+fn show_score(rt: &HostRuntime, builder: &mut StockBuilder, text: &[u8]) -> anyhow::Result<()> {
+    let Some(piece) = add(rt, builder, text)? else {
+        return Ok(());
+    };
+    let marks = piece.marks;
+    let events = piece.events;
+    let text_len = piece.text_len;
+    let marks_start = marks.start;
+    let marks_len = marks.len;
+    let events_start = events.start;
+    let events_len = events.len;
+    println!(rt;
+        "piece: marks {marks_start}+{marks_len} events {events_start}+{events_len} text {text_len}"
+    )?;
+    show_marks(rt, builder.stock(), marks)?;
+    show_events(rt, builder.stock(), events)
+}
+
 /// Shows each score of the input.
-fn show_all(rt: &HostRuntime, text: &[u8]) -> anyhow::Result<()>
-    requires { length text.now ≤ 1048576 }
-{
+fn show_all(rt: &HostRuntime, text: &[u8]) -> anyhow::Result<()> {
     let mut builder = StockBuilder::new(rt.alloc());
-    let mut score = 0;
-    let mut start = 0;
-    while start < text.len() {
-        let rest = behind(text, start);
-        let end = place_of(rest, b'\n');
-        let line = front(rest, end);
-        if same(line, b"====") {
-            show_score(
-                rt,
-                &mut builder,
-                front(behind(text, score), start.saturating_sub(score)),
-            )?;
-            score = start + end + 1;
+    let mut score = Vec::new(rt.alloc());
+    for line in Lines::of(text) {
+        if line == SCORE_END {
+            show_score(rt, &mut builder, score.as_slice())?;
+            score.clear();
         } else {
             show_line(rt, line)?;
+            score.extend_from_slice(line)?;
+            score.push(b'\n')?;
         }
-        start += end + 1;
     }
     Ok(())
 }
@@ -181,12 +180,9 @@ fn repeated(rt: &HostRuntime, first: &[u8], text: &[u8], count: u32) -> anyhow::
 
 /// Adds a score, and shows how many events it has or why it was refused.
 fn show_count(rt: &HostRuntime, builder: &mut StockBuilder, text: &[u8]) -> anyhow::Result<()> {
-    match builder.add_score(text) {
-        Ok(piece) => {
-            let count = piece.events.len;
-            println!(rt; "added: {count}")?;
-        }
-        Err(e) => println!(rt; "refused: {e}")?,
+    if let Some(piece) = add(rt, builder, text)? {
+        let count = piece.events.len;
+        println!(rt; "added: {count}")?;
     }
     Ok(())
 }

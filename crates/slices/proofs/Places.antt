@@ -1,14 +1,31 @@
--- The place of a byte, one step on, and in a list behind another.
-use Rattle.std.proofs.Common.{◌≡◌, ℕ, suc, ◌+◌, ◌<◌, Bool, true, false, cond, eqb, List, [], ◌∷◌, ◌++◌, length, get_or, take, drop, refl, ap, ◌∙◌, one-add, arith, length-append}
-use Rattle.std.proofs.lemmas.List.{drop_more, take-append-drop}
-use Rattle.std.proofs.lemmas.Bool.{eq-eqb, ne_eqb, eqb-true}
+-- The place of a byte, as it is found, and in a list behind another.
+use Rattle.std.proofs.Common.{◌≡◌, ℕ, suc, ◌+◌, Bool, true, false, cond, not, ◌||◌, eqb, ltb, ◌≤◌, List, [], ◌∷◌, ◌++◌, length, take, drop, Some, None, Option, unwrap_or, sym, refl, ap, ◌∙◌, one-add, arith, rules, length-append}
+use Rattle.std.proofs.lemmas.List.{take-append-drop}
+use Rattle.std.proofs.lemmas.Bool.{eq-eqb, ne_eqb, eqb-true, ltb-false}
+use Rattle.std.proofs.lemmas.List.Sums.{prefix_len-le-length}
+use Rattle.std.proofs.lemmas.List.Recursion.{is_position_or_len}
+use Rattle.std.specs.List.{position, position_or_len, list_any}
 use Rattle.slices.specs.Fields.{place_of, lacks}
 
-pub place_here : (b : ℕ) (xs : List ℕ) (i : ℕ) → i < length xs → get_or xs i 0 ≡ b → place_of b (drop i xs) ≡ 0
-place_here b xs i h e = ap (place_of b) (drop_more xs i 0 h) ∙ ap (λ t. cond t 0 (1 + place_of b (drop (i + 1) xs))) (eq-eqb (get_or xs i 0) b e)
+found_by : (t : Bool) (n m : ℕ) → ltb n m ≡ t → n ≤ m → unwrap_or (cond t (Some n) None) m ≡ n
+found_by true n m e h = refl
+found_by false n m e h = let k = ltb-false n m e in omega arith
 
-pub place_on : (b : ℕ) (xs : List ℕ) (i : ℕ) → i < length xs → (get_or xs i 0 ≡ b → ⊥) → place_of b (drop i xs) ≡ 1 + place_of b (drop (i + 1) xs)
-place_on b xs i h e = ap (place_of b) (drop_more xs i 0 h) ∙ ap (λ t. cond t 0 (1 + place_of b (drop (i + 1) xs))) (ne_eqb (get_or xs i 0) b e)
+pub found_or_len : (p : ℕ → Bool) (xs : List ℕ) → unwrap_or (position p xs) (length xs) ≡ position_or_len p xs
+found_or_len p xs = let n = position_or_len p xs in found_by (ltb n (length xs)) n (length xs) refl (prefix_len-le-length (λ x. not (p x)) xs)
+
+-- the place that a search finds, or the length where it finds none
+pub place_found : (b : ℕ) (xs : List ℕ) (o : Option ℕ) → o ≡ position (λ x. eqb x b) xs → unwrap_or o (length xs) ≡ place_of b xs
+place_found b xs o e = ap (λ p. unwrap_or p (length xs)) e ∙ found_or_len (λ x. eqb x b) xs ∙ sym (is_position_or_len (place_of b) (λ x. eqb x b) refl (λ x xs. refl) xs)
+
+-- a byte is none of a list just where its place is the length
+none_by : (t : Bool) (b : ℕ) (xs : List ℕ) → not (list_any (λ x. eqb x b) xs) ≡ lacks b xs → not (t || list_any (λ x. eqb x b) xs) ≡ eqb (cond t 0 (1 + place_of b xs)) (suc (length xs))
+none_by true b xs h = sym (ne_eqb 0 (suc (length xs)) (λ w. omega arith))
+none_by false b xs h = h ∙ search rules
+
+pub none_is_lacking : (b : ℕ) (xs : List ℕ) → not (list_any (λ x. eqb x b) xs) ≡ lacks b xs
+none_is_lacking b [] = refl
+none_is_lacking b (x ∷ xs) = none_by (eqb x b) b xs (none_is_lacking b xs)
 
 -- a list that lacks a byte has another head, and its tail lacks it
 lacks_parts : (t : Bool) (p n : ℕ) → eqb (cond t 0 (1 + p)) (suc n) ≡ true → (t ≡ false) × (eqb p n ≡ true)
@@ -55,3 +72,11 @@ front_by b x xs false e h = ap (λ n. lacks b (take n (x ∷ xs))) (one-add (pla
 pub lacks_front : (b : ℕ) (xs : List ℕ) → lacks b (take (place_of b xs) xs) ≡ true
 lacks_front b [] = refl
 lacks_front b (x ∷ xs) = front_by b x xs (eqb x b) refl (lacks_front b xs)
+
+within_by : (t : Bool) (p n : ℕ) → p ≤ n → cond t 0 (1 + p) ≤ suc n
+within_by true p n h = omega arith
+within_by false p n h = omega (arith, h)
+
+pub place_within : (b : ℕ) (xs : List ℕ) → place_of b xs ≤ length xs
+place_within b [] = omega arith
+place_within b (x ∷ xs) = within_by (eqb x b) (place_of b xs) (length xs) (place_within b xs)

@@ -1,7 +1,8 @@
 //! Scores are added to a stock: each line becomes an event.
 ghost use Rattle.std.specs.Prelude.{◌≡◌, ℕ, ◌+◌, ◌-◌, ◌<◌, ◌≤◌, [], ◌∷◌, ◌++◌, length, IfOk, Err, vec_len, MatchResult, OnOk};
 ghost use Rattle.notation.specs.Scores.{Grown, Counted, Holds, Naming, Marking, Anchored, Step, Reached, Ended, Added, Same, name_set};
-ghost use Rattle.notation.specs.Causes.{refusing, ForLists, BytesExceeded, MarksFull, EventsFull, Unknown, AliasUnknown, MarkExceeds, LineCause, Stopped, Refusal};
+ghost use Rattle.notation.specs.Causes.{refusing, ForLists, BytesExceeded, MarksFull, Unknown, AliasUnknown, MarkExceeds, LineCause, Stopped, Refusal};
+ghost use Rattle.notation.specs.Limits.{Filled};
 ghost use Rattle.notation.specs.View.{said};
 ghost use Rattle.notation.specs.declared.fault.TextFault.TheVariants.{TextTooLong};
 
@@ -12,20 +13,40 @@ use crate::line::Line;
 use crate::reading::read_line;
 use events::marks::last_named;
 use events::score::{Event, Mark, Piece, Run, Span, Stock};
-use slices::{behind, empty, front, place_of};
+use slices::front;
+use slices::lines::Lines;
 use std::alloc::Global;
 
 const MAX_BYTES: usize = 1_048_576;
 
-const MAX_MARKS: usize = 4_096;
-
-const MAX_EVENTS: usize = 65_536;
-
-const MAX_SCORE_MARKS: usize = 256;
-
-const MAX_SCORE_EVENTS: usize = 8_192;
-
 const MAX_TEXT: usize = 1_048_576;
+
+/// How many items of a list a score may have, how many the list may have, and the fault where there would be more.
+#[derive(Clone, Copy)]
+struct Limits {
+    score: usize,
+    stock: usize,
+    fault: TextFault,
+}
+
+const MARKS: Limits = Limits {
+    score: 256,
+    stock: 4_096,
+    fault: TextFault::TooManyMarks,
+};
+
+const EVENTS: Limits = Limits {
+    score: 8_192,
+    stock: 65_536,
+    fault: TextFault::TooManyEvents,
+};
+
+/// Where the marks and the events of a score begin in the lists of its stock.
+#[derive(Clone, Copy)]
+struct Begun {
+    marks: usize,
+    events: usize,
+}
 
 /// Appends bytes, and answers where they stand.
 fn put_bytes(bytes: &mut Vec<u8>, more: &[u8]) -> Result<Run, TextFault>
@@ -44,45 +65,34 @@ fn put_bytes(bytes: &mut Vec<u8>, more: &[u8]) -> Result<Run, TextFault>
     })
 }
 
-/// Appends a mark of the score whose marks begin at `first`, and answers its number in that score, counted from 1.
-fn put_mark(marks: &mut Vec<Mark>, first: usize, mark: Mark) -> Result<u32, TextFault>
-    ensures placed { MatchResult result (λ n. (marks.new.items ≡ marks.old.items ++ mark ∷ []) × (n ≡ vec_len marks.old - first + 1)) (λ _. marks.new.items ≡ marks.old.items) }
-    ensures within { vec_len marks.old ≤ 4096 → vec_len marks.new ≤ 4096 }
-    ensures counted { vec_len marks.old - first ≤ 256 → vec_len marks.new - first ≤ 256 }
-    ensures refused { refusing result (ForLists ⊥ ⊥ (MarksFull first (vec_len marks.old)) ⊥) }
+/// Appends an item of the score whose items begin at `first`, and answers its number in that score, counted from 1.
+fn put<T: Drop>(
+    list: &mut Vec<T>,
+    first: usize,
+    item: T,
+    limits: Limits,
+) -> Result<usize, TextFault>
+    ensures placed { MatchResult result (λ n. (list.new.items ≡ list.old.items ++ item ∷ []) × (n ≡ vec_len list.old - first + 1)) (λ _. list.new.items ≡ list.old.items) }
+    ensures within { vec_len list.old ≤ limits.stock → vec_len list.new ≤ limits.stock }
+    ensures counted { vec_len list.old - first ≤ limits.score → vec_len list.new - first ≤ limits.score }
+    ensures few { IfOk result (λ n. n ≤ limits.score) }
+    ensures refused { refusing result (Filled limits first (vec_len list.old)) }
 {
-    let count = marks.len().saturating_sub(first);
-    if marks.len() >= MAX_MARKS || count >= MAX_SCORE_MARKS {
-        return Err(TextFault::TooManyMarks);
+    let count = list.len().saturating_sub(first);
+    if list.len() >= limits.stock || count >= limits.score {
+        return Err(limits.fault);
     }
-    marks.push(mark)?;
-    Ok(count as u32 + 1)
-}
-
-/// Appends an event of the score whose events begin at `first`.
-fn put_event(events: &mut Vec<Event>, first: usize, event: Event) -> Result<(), TextFault>
-    ensures placed { MatchResult result (λ _. events.new.items ≡ events.old.items ++ event ∷ []) (λ _. events.new.items ≡ events.old.items) }
-    ensures within { vec_len events.old ≤ 65536 → vec_len events.new ≤ 65536 }
-    ensures counted { vec_len events.old - first ≤ 8192 → vec_len events.new - first ≤ 8192 }
-    ensures refused { refusing result (ForLists ⊥ ⊥ ⊥ (EventsFull first (vec_len events.old))) }
-{
-    let count = events.len().saturating_sub(first);
-    if events.len() >= MAX_EVENTS || count >= MAX_SCORE_EVENTS {
-        return Err(TextFault::TooManyEvents);
-    }
-    events.push(event)?;
-    Ok(())
+    list.push(item)?;
+    Ok(count + 1)
 }
 
 /// Where the line feeds at the end of a text begin.
 fn text_end(text: &[u8]) -> usize
     ensures ended { Ended text.now result }
 {
-    let mut end = text.len();
-    while end > 0 && text[end - 1] == b'\n' {
-        end -= 1;
-    }
-    end
+    text.iter()
+        .rposition(|&byte| byte != b'\n')
+        .map_or(0, |last| last + 1)
 }
 
 impl StockBuilder {
@@ -119,45 +129,44 @@ impl StockBuilder {
         ensures refused { refusing result (ForLists (Unknown first name.now self.now) ⊥ ⊥ ⊥) }
     {
         let marks = self.marks.as_slice();
-        if first > marks.len() {
-            return Err(TextFault::UnknownAnchor);
-        }
-        match last_named(self.bytes.as_slice(), &marks[first..], name) {
-            Some(number) => Ok(number as u32),
-            None => Err(TextFault::UnknownAnchor),
-        }
+        let marks = marks.get(first..).ok_or(TextFault::UnknownAnchor)?;
+        let number = last_named(self.bytes.as_slice(), marks, name).ok_or(
+            TextFault::UnknownAnchor,
+        )?;
+        Ok(number as u32)
     }
 
-    /// Sets a mark of this name in the score whose marks begin at `first`, and answers its number in that score.
-    fn set_mark(&mut self, first: usize, name: &[u8]) -> Result<u32, TextFault>
+    /// Sets a mark of this name in the score that begins there, and answers its number in that score.
+    fn set_mark(&mut self, begun: Begun, name: &[u8]) -> Result<u32, TextFault>
         ensures grown { Grown self.old self.new }
-        ensures counted { (e : ℕ) → Counted first e self.old → Counted first e self.new }
+        ensures counted { Counted begun.marks begun.events self.old → Counted begun.marks begun.events self.new }
         ensures events { self.new.events.items ≡ self.old.events.items }
-        ensures marking { IfOk result (λ n. Marking first name.now n self.old self.new) }
+        ensures marking { IfOk result (λ n. Marking begun.marks name.now n self.old self.new) }
         ensures bytes { OnOk result (self.new.bytes.items ≡ self.old.bytes.items ++ name.now) }
-        ensures refused { refusing result (ForLists ⊥ (BytesExceeded (vec_len self.old.bytes) (length name.now)) (MarksFull first (vec_len self.old.marks)) ⊥) }
+        ensures refused { refusing result (ForLists ⊥ (BytesExceeded (vec_len self.old.bytes) (length name.now)) (MarksFull begun.marks (vec_len self.old.marks)) ⊥) }
     {
         let run = put_bytes(&mut self.bytes, name)?;
-        put_mark(&mut self.marks, first, Mark { name: run })
+        let number = put(&mut self.marks, begun.marks, Mark { name: run }, MARKS)?;
+        Ok(number as u32)
     }
 
     /// The number of the mark that a line sets or names, or 0. A line that sets one gets the next number.
-    fn anchor_of(&mut self, first_mark: usize, line: &Line) -> Result<u32, TextFault>
+    fn anchor_of(&mut self, begun: Begun, line: &Line) -> Result<u32, TextFault>
         ensures grown { Grown self.old self.new }
-        ensures counted { (e : ℕ) → Counted first_mark e self.old → Counted first_mark e self.new }
+        ensures counted { Counted begun.marks begun.events self.old → Counted begun.marks begun.events self.new }
         ensures events { self.new.events.items ≡ self.old.events.items }
-        ensures anchored { IfOk result (λ n. Anchored first_mark (said line.now) n self.old self.new) }
+        ensures anchored { IfOk result (λ n. Anchored begun.marks (said line.now) n self.old self.new) }
         ensures bytes { OnOk result (self.new.bytes.items ≡ self.old.bytes.items ++ name_set (said line.now)) }
-        ensures refused { refusing result (ForLists (AliasUnknown first_mark (said line.now) self.old) (BytesExceeded (vec_len self.old.bytes) (length (name_set (said line.now)))) (MarkExceeds first_mark (said line.now) self.old) ⊥) }
+        ensures refused { refusing result (ForLists (AliasUnknown begun.marks (said line.now) self.old) (BytesExceeded (vec_len self.old.bytes) (length (name_set (said line.now)))) (MarkExceeds begun.marks (said line.now) self.old) ⊥) }
     {
         let name = line.anchor.as_slice();
-        if empty(name) {
+        if name.is_empty() {
             return Ok(0);
         }
         if is_alias(line.kind) {
-            return self.number_of(first_mark, name);
+            return self.number_of(begun.marks, name);
         }
-        self.set_mark(first_mark, name)
+        self.set_mark(begun, name)
     }
 
     /// Appends the value and the tag of a line, and answers where they stand.
@@ -176,62 +185,47 @@ impl StockBuilder {
         Ok((value, tag))
     }
 
-    /// Adds the event of one line to the score whose marks and events begin at these places.
-    fn add_line(
-        &mut self,
-        first_mark: usize,
-        first_event: usize,
-        text: &[u8],
-        span: Span,
-    ) -> Result<(), TextFault>
+    /// Adds the event of one line to the score that begins there.
+    fn add_line(&mut self, begun: Begun, text: &[u8], span: Span) -> Result<(), TextFault>
         ensures grown { Grown self.old self.new }
-        ensures counted { Counted first_mark first_event self.old → Counted first_mark first_event self.new }
-        ensures step { OnOk result (Step first_mark text.now span self.old self.new) }
-        ensures refused { refusing result (LineCause first_mark first_event text.now self.old) }
+        ensures counted { Counted begun.marks begun.events self.old → Counted begun.marks begun.events self.new }
+        ensures step { OnOk result (Step begun.marks text.now span self.old self.new) }
+        ensures refused { refusing result (LineCause begun.marks begun.events text.now self.old) }
     {
         let line = read_line(self.heap, text)?;
-        let anchor = self.anchor_of(first_mark, &line)?;
+        let anchor = self.anchor_of(begun, &line)?;
         let (value, tag) = self.put_texts(&line)?;
         let event = Event {
-            kind: line.kind.number(),
+            kind: u32::from(line.kind),
             anchor,
             value,
             tag,
-            style: line.style.number(),
+            style: u32::from(line.style),
             span,
         };
-        put_event(&mut self.events, first_event, event)
+        put(&mut self.events, begun.events, event, EVENTS)?;
+        Ok(())
     }
 
-    /// Adds the lines of a score whose marks and events begin at these places.
-    fn add_lines(
-        &mut self,
-        first_mark: usize,
-        first_event: usize,
-        text: &[u8],
-    ) -> Result<(), TextError>
+    /// Adds the lines of the score that begins there.
+    fn add_lines(&mut self, begun: Begun, text: &[u8]) -> Result<(), TextError>
         requires { length text.now ≤ 1048576 }
         ensures grown { Grown self.old self.new }
-        ensures counted { Counted first_mark first_event self.old → Counted first_mark first_event self.new }
-        ensures lines { OnOk result ((i : ℕ) × (length text.now ≤ i) × Reached first_mark text.now self.old i self.new) }
-        ensures refused { refusing result (Stopped first_mark first_event text.now self.old) }
+        ensures counted { Counted begun.marks begun.events self.old → Counted begun.marks begun.events self.new }
+        ensures lines { OnOk result ((i : ℕ) × (length text.now ≤ i) × Reached begun.marks text.now self.old i self.new) }
+        ensures refused { refusing result (Stopped begun.marks begun.events text.now self.old) }
     {
+        // Counted beside the lines: a span is a place in bytes.
         let mut start = 0;
-        let mut line = 0;
-        while start < text.len() {
-            let rest = behind(text, start);
-            let end = start + place_of(rest, b'\n');
-            line += 1;
+        for (index, line) in Lines::of(text).enumerate() {
+            let end = start + line.len();
             let span = Span {
                 start: start as u32,
                 end: end as u32,
             };
-            if let Err(fault) = self.add_line(
-                first_mark,
-                first_event,
-                front(rest, end - start),
-                span,
-            ) {
+            // No `map_err` behind `?`: the proof of what is refused does not close over it.
+            if let Err(fault) = self.add_line(begun, line, span) {
+                let line = index + 1;
                 return Err(TextError { line, fault });
             }
             start = end + 1;
@@ -254,21 +248,24 @@ impl StockBuilder {
             });
         }
         let bytes = self.bytes.len();
-        let marks = self.marks.len();
-        let events = self.events.len();
-        if let Err(error) = self.add_lines(marks, events, front(text, text_end(text))) {
+        let begun = Begun {
+            marks: self.marks.len(),
+            events: self.events.len(),
+        };
+        // No `?`: the lists are put back first.
+        if let Err(error) = self.add_lines(begun, front(text, text_end(text))) {
             self.bytes.truncate(bytes);
-            self.marks.truncate(marks);
-            self.events.truncate(events);
+            self.marks.truncate(begun.marks);
+            self.events.truncate(begun.events);
             return Err(error);
         }
         let marks = Run {
-            start: marks as u32,
-            len: (self.marks.len() - marks) as u32,
+            start: begun.marks as u32,
+            len: (self.marks.len() - begun.marks) as u32,
         };
         let events = Run {
-            start: events as u32,
-            len: (self.events.len() - events) as u32,
+            start: begun.events as u32,
+            len: (self.events.len() - begun.events) as u32,
         };
         Ok(Piece {
             marks,

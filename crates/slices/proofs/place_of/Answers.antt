@@ -1,20 +1,10 @@
-use Rattle.std.proofs.Common.{ap, arith}
-use Rattle.std.proofs.lemmas.List.{drop_all}
-use Rattle.slices.specs.Fields.{place_of}
-use Rattle.slices.proofs.Places.{place_here, place_on}
+use Rattle.std.proofs.Common.{eqb, rules, tests, ◌∙◌}
+use Rattle.std.proofs.lemmas.Iterator.{YieldsList-from_slice}
+use Rattle.std.proofs.lemmas.Iterator.Search.{position_from_yields_List}
+use Rattle.slices.proofs.Places.{place_found}
 use Rattle.slices.proofs.place_of.Goals as goal
 
-pub returns-then-s-i : goal.returns-then-s-i
-returns-then-s-i c =
-    let h = place_here c.args.b c.args.s.now c.loop-i.i c.loop-i-test.true c.if-s-i.true in
-    record { value = omega (arith, c.loop-i.invariant); within = omega arith }
-
-pub loop-i-preserved : goal.loop-i-preserved
-loop-i-preserved c =
-    let h = place_on c.args.b c.args.s.now c.loop-i.i c.loop-i-test.true c.if-s-i.false in
-    omega (arith, c.loop-i.invariant)
-
-pub returns : goal.returns
-returns c =
-    let h = ap (place_of c.args.b) (drop_all c.loop-i.i c.args.s.now c.loop-i-test.false) in
-    record { value = omega (arith, c.loop-i.invariant); within = omega arith }
+pub returns-clause-value : goal.returns-clause-value
+returns-clause-value c =
+    let b = c.args.b in
+    c.unwrap_or.ensures ∙ place_found b c.args.s.now c.position.result (position_from_yields_List (λ (x : _). eqb x b) _ _ c.position.result c.position.ensures.ran (YieldsList-from_slice _ c.iter.ensures.rest) (λ x t q k. search (rules, tests)))

@@ -1,63 +1,96 @@
-use Rattle.std.proofs.Common.{◌+◌, ◌-◌, length, take, refl, ap, ◌∙◌, subst, arith, length-drop}
-use Rattle.slices.specs.Fields.{place_of}
+use Rattle.std.proofs.Common.{◌≡◌, ◌+◌, ◌<◌, ◌^◌, [], ◌∷◌, drop, length, length-drop, rules, inl, sym, ap, ◌∙◌, subst, arith}
+use Rattle.std.specs.Iterator.Adapters.{enumerate_count, enumerate_source}
+use Rattle.slices.specs.Lines.{lines_of}
+use Rattle.slices.specs.LinesLeft.{lines_left}
+use Rattle.slices.proofs.Cutting.{none_left}
 use Rattle.notation.specs.Scores.{begun}
 use Rattle.notation.specs.Causes.{LineCause}
-use Rattle.notation.proofs.Refusing.{feeds_more, line_at_lem}
+use Rattle.notation.proofs.Refusing.{LineHere, line_here, feeds_more}
 use Rattle.notation.proofs.Carrying.{reached_more}
 use Rattle.notation.proofs.Growing.{grown_same, grown_trans}
 use Rattle.notation.proofs.builder.StockBuilder.add_lines.Goals as goal
 
-pub overflow_cast-span-in-loop-start : goal.overflow_cast-span-in-loop-start
-overflow_cast-span-in-loop-start c =
-    let r = ap length c.behind-rest.ensures.value in
-    let d = length-drop c.loop-start.start c.args.text.now in
-    omega arith
+pub loop-index-init : goal.loop-index-init
+loop-index-init c =
+    let it = c.into_iter-index-iterator.result in
+    let zero : enumerate_count it ≡ 0 = cc in
+    let all : lines_left (enumerate_source it) ≡ lines_of c.args.text.now = cc in
+    let few : length (lines_left (enumerate_source it)) < 2 ^ 64 = search (rules, arith) in
+    record {
+      can = (tt, tt, inl (omega (arith, zero, few)));
+      ends = tt;
+      lines = all;
+      number = λ _. zero;
+      within = omega arith;
+      grown = grown_same _;
+      counted = λ h. h;
+      reached = begun;
+    }
 
-pub loop-start-init : goal.loop-start-init
-loop-start-init c = (omega arith, grown_same _, λ h. h, begun, λ _. refl)
+pub overflow_add-end : goal.overflow_add-end
+overflow_add-end c =
+    let line = c.in-Some.line.now in
+    let rest = lines_left (enumerate_source c.next.new.self) in
+    let front : lines_left (enumerate_source c.loop-index.index-iterator) ≡ line ∷ rest = search rules in
+    let here : LineHere c.args.text.now line rest c.loop-index.start = line_here _ _ _ _ (sym c.loop-index.invariant.lines ∙ front) in
+    omega (arith, here.within)
+
+pub overflow_cast-span-in-loop-index : goal.overflow_cast-span-in-loop-index
+overflow_cast-span-in-loop-index c =
+    let line = c.in-Some.line.now in
+    let rest = lines_left (enumerate_source c.next.new.self) in
+    let front : lines_left (enumerate_source c.loop-index.index-iterator) ≡ line ∷ rest = search rules in
+    let here : LineHere c.args.text.now line rest c.loop-index.start = line_here _ _ _ _ (sym c.loop-index.invariant.lines ∙ front) in
+    omega (arith, here.within)
 
 pub returns-in-Err : goal.returns-in-Err
 returns-in-Err c =
+    let text = c.args.text.now in
+    let i = c.loop-index.start in
+    let line = c.in-Some.line.now in
+    let rest = lines_left (enumerate_source c.next.new.self) in
+    let front : lines_left (enumerate_source c.loop-index.index-iterator) ≡ line ∷ rest = search rules in
+    let here : LineHere text line rest i = line_here text line rest i (sym c.loop-index.invariant.lines ∙ front) in
+    let index : c.in-Some.index ≡ enumerate_count c.loop-index.index-iterator = search rules in
     record {
-      grown = grown_trans c.loop-start.invariant.1 c.add_line.ensures.grown;
-      counted = λ h. c.add_line.ensures.counted (c.loop-start.invariant.2 h);
+      grown = grown_trans c.loop-index.invariant.grown c.add_line.ensures.grown;
+      counted = λ h. c.add_line.ensures.counted (c.loop-index.invariant.counted h);
       lines = tt;
-      refused =
-          let text = c.args.text.now in
-          let i = c.loop-start.start in
-          let at = line_at_lem text i c.place_of.result _ _ c.behind-rest.ensures.value c.place_of.ensures.value c.front.ensures.value in
-          record {
-            place = i;
-            inside = c.loop-start-test.true;
-            number = ap (λ n. n + 1) (c.loop-start.invariant.4 c.loop-start-test.true);
-            lists = c.loop-start.self;
-            reached = c.loop-start.invariant.3;
-            cause = subst (λ t. LineCause c.args.first_mark c.args.first_event t c.loop-start.self c.in-Err.fault) at c.in-Err.ensures.refused;
-          };
+      refused = record {
+        place = i;
+        inside = here.inside;
+        number = ap (λ n. n + 1) (index ∙ c.loop-index.invariant.number here.inside);
+        lists = c.loop-index.self;
+        reached = c.loop-index.invariant.reached;
+        cause = subst (λ t. LineCause c.args.begun.marks c.args.begun.events t c.loop-index.self c.in-Err.fault) here.is c.in-Err.ensures.refused;
+      };
     }
 
-pub returns : goal.returns
-returns c =
+pub loop-index-preserved : goal.loop-index-preserved
+loop-index-preserved c =
+    let text = c.args.text.now in
+    let i = c.loop-index.start in
+    let line = c.in-Some.line.now in
+    let rest = lines_left (enumerate_source c.next.new.self) in
+    let front : lines_left (enumerate_source c.loop-index.index-iterator) ≡ line ∷ rest = search rules in
+    let here : LineHere text line rest i = line_here text line rest i (sym c.loop-index.invariant.lines ∙ front) in
+    let next : enumerate_count c.next.new.self ≡ enumerate_count c.loop-index.index-iterator + 1 = search rules in
     record {
-      grown = c.loop-start.invariant.1;
-      counted = c.loop-start.invariant.2;
-      lines = (c.loop-start.start, c.loop-start-test.false, c.loop-start.invariant.3);
-      refused = tt;
+      can = search rules;
+      ends = tt;
+      lines = here.later;
+      number = λ h.
+          let n = c.loop-index.invariant.number here.inside in
+          let more = feeds_more text i (length line) here.len (omega (arith, h)) in
+          omega (arith, next, n, more);
+      within = omega (arith, here.within);
+      grown = grown_trans c.loop-index.invariant.grown c.add_line.ensures.grown;
+      counted = λ h. c.add_line.ensures.counted (c.loop-index.invariant.counted h);
+      reached = reached_more c.args.begun.marks text c.args.self.now i _ _ line c.loop-index.invariant.reached here.inside here.is here.len c.in_default.ensures.step;
     }
 
-pub loop-start-preserved : goal.loop-start-preserved
-loop-start-preserved c = (
-  (let h = c.loop-start.invariant.0 in omega arith),
-  grown_trans c.loop-start.invariant.1 c.add_line.ensures.grown,
-  λ h. c.add_line.ensures.counted (c.loop-start.invariant.2 h),
-  (let text = c.args.text.now in
-      let i = c.loop-start.start in
-      let rest = c.behind-rest.ensures.value in
-      reached_more c.args.first_mark text c.args.self.now i c.place_of.result _ _ _ c.loop-start.invariant.3 c.loop-start-test.true (c.place_of.ensures.value ∙ ap (place_of 10) rest) (c.front.ensures.value ∙ ap (take (i + c.place_of.result - i)) rest) c.in_default.ensures.step),
-  λ h.
-      let text = c.args.text.now in
-      let i = c.loop-start.start in
-      let n = c.loop-start.invariant.4 c.loop-start-test.true in
-      let more = feeds_more text i c.place_of.result (c.place_of.ensures.value ∙ ap (place_of 10) c.behind-rest.ensures.value) (omega (arith, h)) in
-      omega (arith, n, more),
-)
+pub returns-clause-lines : goal.returns-clause-lines
+returns-clause-lines c =
+    let none : lines_left (enumerate_source c.loop-index.index-iterator) ≡ [] = search rules in
+    let past = none_left (drop c.loop-index.start c.args.text.now) (sym c.loop-index.invariant.lines ∙ none) in
+    (c.loop-index.start, omega (arith, past, length-drop c.loop-index.start c.args.text.now), c.loop-index.invariant.reached)
