@@ -1,8 +1,13 @@
 -- Entries under flags: fresh flags change nothing, and what withdrawing by flags does.
-use Rattle.std.proofs.Common.{◌≡◌, ℕ, zero, suc, ◌+◌, ◌<◌, ◌≤◌, Bool, true, false, not, ◌&&◌, eqb, ◌≢◌, List, [], ◌∷◌, length, get_or, replicate, sym, refl, ap, ◌∙◌, arith, length-set, get_or-set_other, get_or-set_same}
+use Rattle.std.proofs.Common.{◌≡◌, ℕ, zero, suc, ◌+◌, ◌<◌, ◌≤◌, Bool, true, false, cond, not, ◌&&◌, eqb, ◌≢◌, List, [], ◌∷◌, length, get_or, drop, Some, Err, find, replicate, sym, refl, ap, ◌∙◌, arith, length-set, get_or-set_other, get_or-set_same}
 use Rattle.std.proofs.lemmas.Bool.{and_right}
-use Rattle.catalogue.specs.Entries.{Entry, withdrawn, standing}
-use Rattle.binder.specs.Binding.{flagged, flagged_entry, flags_after, stood_at}
+use Rattle.std.specs.List.{zip}
+use Rattle.std.specs.Option.{option_map_or}
+use Rattle.std.proofs.lemmas.List.{drop_more}
+use Rattle.std.proofs.lemmas.List.Sums.{sum_by-cons}
+use Rattle.catalogue.specs.declared.answers.Unresolved.TheVariants.{Unknown}
+use Rattle.catalogue.specs.Entries.{Entry, answer, has_path, look_up, withdrawn, standing}
+use Rattle.binder.specs.Binding.{flagged, flagged_entry, flags_after}
 use Rattle.binder.specs.Entries.{walk, entry_of, behind_entry}
 
 fresh : (n i : ℕ) → get_or (replicate n false) i false ≡ false
@@ -19,7 +24,7 @@ abbrev pub struck : ℕ → List Entry → ℕ → List Bool → List Bool
 struck n [] i fs = fs
 struck n (e ∷ es) i fs = struck n es (i + 1) (flags_after (eqb e.number n) i fs)
 
-length_after : (b : Bool) (i : ℕ) (fs : List Bool) → length (flags_after b i fs) ≡ length fs
+pub length_after : (b : Bool) (i : ℕ) (fs : List Bool) → length (flags_after b i fs) ≡ length fs
 length_after true i fs = length-set fs i true
 length_after false i fs = refl
 
@@ -57,6 +62,22 @@ flagged_struck n (e ∷ es) i fs h =
     let others = flagged_struck n es (i + 1) is (omega (arith, length_after b i fs)) ∙ ap (withdrawn n) (flagged_after b i (i + 1) fs es (omega arith)) in
     λ j. record { path = e.path; number = e.number; piece = e.piece; stands = stands j } ∷ others j
 
+-- 1 if the entry at i is meant and stood
+abbrev pub stood_at : Bool → ℕ → List Bool → ℕ
+stood_at meant i fs = cond (not (get_or fs i false) && meant) 1 0
+
 -- how many stand, one entry on
 pub standing_more : (n i : ℕ) (fs : List Bool) (e : Entry) (es : List Entry) → standing n (flagged i fs (e ∷ es)) ≡ stood_at (eqb e.number n) i fs + standing n (flagged (i + 1) (flags_after (eqb e.number n) i fs) es)
-standing_more n i fs e es = ap (λ xs. stood_at (eqb e.number n) i fs + standing n xs) (sym (flagged_after (eqb e.number n) i (i + 1) fs es (omega arith)))
+standing_more n i fs e es =
+    sum_by-cons _ (flagged_entry (get_or fs i false) e) (flagged (i + 1) fs es)
+    ∙ ap (λ xs. stood_at (eqb e.number n) i fs + standing n xs) (sym (flagged_after (eqb e.number n) i (i + 1) fs es (omega arith)))
+
+-- a look-up of entries under flags, each beside its flag
+pub look_up_flagged : (p : List ℕ) (es : List Entry) (i : ℕ) (fs : List Bool) → i + length es ≤ length fs → look_up (flagged i fs es) p ≡ option_map_or (λ x. answer (flagged_entry x.1 x.0)) (find (λ x. has_path p x.0) (zip es (drop i fs))) (Err Unknown)
+look_up_flagged p [] i fs h = refl
+look_up_flagged p (e ∷ es) i fs h =
+    let f = get_or fs i false in
+    let more : drop i fs ≡ f ∷ drop (i + 1) fs = drop_more fs i false (omega arith) in
+    let others = look_up_flagged p es (i + 1) fs (omega arith) in
+    let here : (b : Bool) → option_map_or answer (cond b (Some (flagged_entry f e)) (find (has_path p) (flagged (i + 1) fs es))) (Err Unknown) ≡ option_map_or (λ x. answer (flagged_entry x.1 x.0)) (cond b (Some (e, f)) (find (λ x. has_path p x.0) (zip es (drop (i + 1) fs)))) (Err Unknown) = λ b. elim b as (λ t. option_map_or answer (cond t (Some (flagged_entry f e)) (find (has_path p) (flagged (i + 1) fs es))) (Err Unknown) ≡ option_map_or (λ x. answer (flagged_entry x.1 x.0)) (cond t (Some (e, f)) (find (λ x. has_path p x.0) (zip es (drop (i + 1) fs)))) (Err Unknown)) [ true ↦ refl | false ↦ others ] in
+    here (has_path p e) ∙ ap (λ gs. option_map_or (λ x. answer (flagged_entry x.1 x.0)) (find (λ x. has_path p x.0) (zip (e ∷ es) gs)) (Err Unknown)) (sym more)

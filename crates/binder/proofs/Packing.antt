@@ -13,7 +13,7 @@ use Rattle.binder.specs.Entries.{path_length, path_of, behind_path, piece_of, en
 use Rattle.binder.specs.Fields.{be16, be32}
 use Rattle.binder.specs.Laws.{Bytes, Fits, Packable, AcceptedExactly}
 use Rattle.binder.specs.Packing.{write16, write32, write_piece, write_entry, write_entries, packed}
-use Rattle.binder.specs.Good.{GoodHead, GoodEntry, from_none, none_from, none_left, wrong_none, wrong_from_lem, length_walk, lawful_listed}
+use Rattle.binder.proofs.Good.{GoodHead, GoodEntry, from_none, none_from, none_left, wrong_none, wrong_from_lem, length_walk, lawful_listed}
 use Rattle.binder.proofs.Written.{read_16, read_32, small_16, small_32, written_16, written_32}
 
 -- number and piece of an entry

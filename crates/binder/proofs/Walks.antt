@@ -1,18 +1,13 @@
 -- One entry more of a walk, at its front and at its end.
-use Rattle.std.proofs.Common.{◌≡◌, ℕ, zero, suc, ◌+◌, ◌-◌, ◌<◌, ◌≤◌, List, [], ◌∷◌, ◌++◌, refl, ap, add-one, arith}
+use Rattle.std.proofs.Common.{◌≡◌, ℕ, zero, suc, ◌+◌, ◌-◌, ◌<◌, List, [], ◌∷◌, ◌++◌, refl, ap, add-one, arith}
+use Rattle.std.specs.Option.{option_or}
 use Rattle.catalogue.specs.Entries.{Entry}
-use Rattle.binder.specs.Entries.{entry_of, behind_entry, entry_length, walk, wrong_from, wrong_entry, or_else}
+use Rattle.binder.specs.Entries.{entry_of, behind_entry, entry_length, walk, wrong_from, wrong_entry}
 
 one_left : (n i : ℕ) → i < n → n - i ≡ suc (n - (i + 1))
 one_left n i h = omega arith
 
-pub walk_more : (n i : ℕ) (xs : List ℕ) → i < n → walk (n - i) xs ≡ entry_of xs ∷ walk (n - (i + 1)) (behind_entry xs)
-walk_more n i xs h = ap (λ k. walk k xs) (one_left n i h)
-
-pub walk_end : (n i : ℕ) (xs : List ℕ) → n ≤ i → walk (n - i) xs ≡ []
-walk_end n i xs h = let z : n - i ≡ 0 = omega arith in ap (λ k. walk k xs) z
-
-pub wrong_from_more : (n i : ℕ) (before : List Entry) (p : ℕ) (xs : List ℕ) → i < n → wrong_from (n - i) before p xs ≡ or_else (wrong_entry before p xs) (wrong_from (n - (i + 1)) (before ++ entry_of xs ∷ []) (p + entry_length xs) (behind_entry xs))
+pub wrong_from_more : (n i : ℕ) (before : List Entry) (p : ℕ) (xs : List ℕ) → i < n → wrong_from (n - i) before p xs ≡ option_or (wrong_entry before p xs) (wrong_from (n - (i + 1)) (before ++ entry_of xs ∷ []) (p + entry_length xs) (behind_entry xs))
 wrong_from_more n i before p xs h = ap (λ k. wrong_from k before p xs) (one_left n i h)
 
 -- what stands behind n entries

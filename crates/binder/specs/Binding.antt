@@ -1,5 +1,5 @@
 -- What binding bytes answers, the list that it leaves, and the entries of a list with flags for those that are withdrawn.
-use Rattle.std.specs.Prelude.{ℕ, ◌+◌, Bool, true, false, cond, not, ◌&&◌, List, [], ◌∷◌, Some, None, Ok, Err, Option, Result, slice_index_or, slice_set}
+use Rattle.std.specs.Prelude.{ℕ, ◌+◌, Bool, true, false, cond, not, List, [], ◌∷◌, Some, None, Ok, Err, Option, Result, slice_index_or, slice_set}
 use Rattle.catalogue.specs.Entries.{Entry}
 use Rattle.catalogue.specs.declared.answers.CatalogueError.{CatalogueError}
 use Rattle.catalogue.specs.declared.answers.CatalogueError.TheVariants.{Malformed}
@@ -34,7 +34,3 @@ flagged i fs (e ∷ es) = flagged_entry (slice_index_or fs i false) e ∷ flagge
 -- the flags once the entry at i is withdrawn, if it is meant
 abbrev pub flags_after : Bool → ℕ → List Bool → List Bool
 flags_after meant i fs = cond meant (slice_set fs i true) fs
-
--- 1 if it is meant and stood
-abbrev pub stood_at : Bool → ℕ → List Bool → ℕ
-stood_at meant i fs = cond (not (slice_index_or fs i false) && meant) 1 0

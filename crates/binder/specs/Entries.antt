@@ -1,7 +1,10 @@
 -- Packed bytes as a list of entries, or the start of the first wrong field. Each definition reads from the front of a list; p is the place of that front in the whole.
 use Rattle.std.specs.Prelude.{ℕ, zero, suc, ◌+◌, Bool, true, false, not, ◌||◌, List, [], ◌∷◌, ◌++◌, length, take, drop, Some, None, Ok, Err, codes, Option, Result, ◌==◌, nat_lt, slice_index}
+use Rattle.std.specs.Option.{option_or}
 use Rattle.std.specs.Str.{bytes_eq}
 use Rattle.events.specs.declared.score.Piece.{Piece}
+use Rattle.catalogue.specs.declared.answers.CatalogueError.{CatalogueError}
+use Rattle.catalogue.specs.declared.answers.CatalogueError.TheVariants.{Malformed}
 use Rattle.catalogue.specs.Entries.{Entry, known}
 use Rattle.binder.specs.Fields.{be16, be32, short}
 
@@ -44,20 +47,15 @@ count_of bs = be16 (drop 5 bs)
 abbrev pub listed : List ℕ → List Entry
 listed bs = walk (count_of bs) (drop 7 bs)
 
--- the place of the first of two that are looked at
-abbrev pub or_else : Option ℕ → Option ℕ → Option ℕ
-or_else None o = o
-or_else (Some p) o = Some p
-
--- a field from p on, which is wrong or not
+-- a field from p on, which is wrong or not; of two that are looked at, the first wrong one is told
 abbrev pub wrong_if : Bool → ℕ → Option ℕ
 wrong_if true p = Some p
 wrong_if false p = None
 
 abbrev pub wrong_head : List ℕ → Option ℕ
 wrong_head bs =
-    or_else (wrong_if (short 3 bs || not (bytes_eq (take 3 bs) (codes "PBK"))) 0)
-    (or_else (wrong_if (short 5 bs || not (be16 (drop 3 bs) == 1)) 3)
+    option_or (wrong_if (short 3 bs || not (bytes_eq (take 3 bs) (codes "PBK"))) 0)
+    (option_or (wrong_if (short 5 bs || not (be16 (drop 3 bs) == 1)) 3)
     (wrong_if (short 7 bs || nat_lt 256 (count_of bs)) 5))
 
 abbrev pub wrong_length : ℕ → List ℕ → Option ℕ
@@ -72,27 +70,32 @@ wrong_number p ys = wrong_if (short 4 ys || be32 ys == 0) p
 
 abbrev pub wrong_piece : ℕ → List ℕ → Option ℕ
 wrong_piece p ys =
-    or_else (wrong_if (short 4 ys) p)
-    (or_else (wrong_if (short 8 ys) (p + 4))
-    (or_else (wrong_if (short 10 ys) (p + 8))
-    (or_else (wrong_if (short 14 ys) (p + 10))
+    option_or (wrong_if (short 4 ys) p)
+    (option_or (wrong_if (short 8 ys) (p + 4))
+    (option_or (wrong_if (short 10 ys) (p + 8))
+    (option_or (wrong_if (short 14 ys) (p + 10))
     (wrong_if (short 16 ys) (p + 14)))))
 
 -- an entry at p, behind these
 abbrev pub wrong_entry : List Entry → ℕ → List ℕ → Option ℕ
 wrong_entry before p xs =
-    or_else (wrong_length p xs)
-    (or_else (wrong_path before (p + 1) xs)
-    (or_else (wrong_number (p + 1 + path_length xs) (behind_path xs))
+    option_or (wrong_length p xs)
+    (option_or (wrong_path before (p + 1) xs)
+    (option_or (wrong_number (p + 1 + path_length xs) (behind_path xs))
     (wrong_piece (p + 5 + path_length xs) (drop 4 (behind_path xs)))))
 
 -- n more entries from p on, behind these, and then nothing
 abbrev pub wrong_from : ℕ → List Entry → ℕ → List ℕ → Option ℕ
 wrong_from zero before p xs = wrong_if (not (length xs == 0)) p
-wrong_from (suc n) before p xs = or_else (wrong_entry before p xs) (wrong_from n (before ++ entry_of xs ∷ []) (p + entry_length xs) (behind_entry xs))
+wrong_from (suc n) before p xs = option_or (wrong_entry before p xs) (wrong_from n (before ++ entry_of xs ∷ []) (p + entry_length xs) (behind_entry xs))
 
 abbrev pub wrong : List ℕ → Option ℕ
-wrong bs = or_else (wrong_head bs) (wrong_from (count_of bs) [] 7 (drop 7 bs))
+wrong bs = option_or (wrong_head bs) (wrong_from (count_of bs) [] 7 (drop 7 bs))
+
+-- the answer of a check, by the place of the first wrong field
+abbrev pub checked : Option ℕ → Result (Unit {0}) CatalogueError
+checked None = Ok tt
+checked (Some p) = Err (Malformed p)
 
 -- what packed bytes mean
 abbrev pub parsed_by : Option ℕ → List Entry → Result (List Entry) ℕ

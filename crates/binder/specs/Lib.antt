@@ -1,8 +1,7 @@
 pub mod Binding
 pub mod Entries
 pub mod Fields
-pub mod Good
 pub mod Laws
+pub mod Left
 pub mod Meaning
-pub mod Meant
 pub mod Packing

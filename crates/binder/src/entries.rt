@@ -1,11 +1,13 @@
 //! One entry at the front of packed bytes: what it says, and its first wrong field.
 ghost use Rattle.std.specs.Prelude.{◌≡◌, ◌+◌, ◌^◌, ◌≤◌};
 ghost use Rattle.catalogue.specs.Entries.{known};
-ghost use Rattle.binder.specs.Entries.{path_length, path_of, behind_path, piece_of, behind_entry, walk, wrong_length, wrong_path, wrong_number, wrong_piece, wrong_entry};
+ghost use Rattle.binder.specs.Entries.{path_length, path_of, behind_path, piece_of, behind_entry, walk, wrong_if, wrong_length, wrong_path, wrong_number, wrong_piece, wrong_entry, checked};
 
 use crate::fields::{u16_of, u32_of};
+use crate::packed::PackedEntries;
+use catalogue::answers::CatalogueError;
 use events::score::{Piece, Run};
-use slices::{behind, byte_at, front, same};
+use slices::{behind, byte_at, front};
 
 /// The length that the entry gives for its path.
 pub(crate) fn path_len(s: &[u8]) -> usize
@@ -57,85 +59,68 @@ pub(crate) fn piece_of(s: &[u8]) -> Piece
 fn knows_path(entries: &[u8], n: usize, path: &[u8]) -> bool
     ensures tells_whether_known { result ≡ known (walk n entries.now) path.now }
 {
-    let mut rest = entries;
-    for _ in 0..n {
-        if same(path_of(rest), path) {
-            return true;
-        }
-        rest = behind_entry(rest);
-    }
-    false
+    PackedEntries::first(entries, n).any(|entry| entry.has_path(path))
 }
 
-// The place of the path length, if it is wrong.
-fn wrong_length(place: u32, s: &[u8]) -> Option<u32>
-    ensures is_the_length_if_wrong { result ≡ wrong_length place s.now }
+/// The refusal of a field at a place, if it is wrong.
+pub(crate) fn refuse_if(wrong: bool, place: u32) -> Result<(), CatalogueError>
+    ensures is_the_place_if_wrong { result ≡ checked (wrong_if wrong place) }
+{
+    if wrong {
+        return Err(CatalogueError::Malformed { place });
+    }
+    Ok(())
+}
+
+// The path length is there, and from 1 to 64.
+fn check_length(place: u32, s: &[u8]) -> Result<(), CatalogueError>
+    ensures is_the_length_if_wrong { result ≡ checked (wrong_length place s.now) }
 {
     let len = path_len(s);
-    if s.len() < 1 || len == 0 || len > 64 {
-        return Some(place);
-    }
-    None
+    refuse_if(s.is_empty() || len == 0 || len > 64, place)
 }
 
-// The place of the path, if it is cut or one of the first `n` entries has it.
-fn wrong_path(entries: &[u8], n: usize, place: u32, s: &[u8]) -> Option<u32>
-    ensures is_the_path_if_wrong { result ≡ wrong_path (walk n entries.now) place s.now }
+// The path is there, and none of the first `n` entries has it.
+fn check_path(entries: &[u8], n: usize, place: u32, s: &[u8]) -> Result<(), CatalogueError>
+    ensures is_the_path_if_wrong { result ≡ checked (wrong_path (walk n entries.now) place s.now) }
 {
-    if behind(s, 1).len() < path_len(s) || knows_path(entries, n, path_of(s)) {
-        return Some(place);
-    }
-    None
+    let cut = behind(s, 1).len() < path_len(s);
+    refuse_if(cut || knows_path(entries, n, path_of(s)), place)
 }
 
-// The place of the number, if it is wrong.
-fn wrong_number(place: u32, s: &[u8]) -> Option<u32>
-    ensures is_the_number_if_wrong { result ≡ wrong_number place s.now }
+// The number is there, and not 0.
+fn check_number(place: u32, s: &[u8]) -> Result<(), CatalogueError>
+    ensures is_the_number_if_wrong { result ≡ checked (wrong_number place s.now) }
 {
-    if s.len() < 4 || u32_of(s) == 0 {
-        return Some(place);
-    }
-    None
+    refuse_if(s.len() < 4 || u32_of(s) == 0, place)
 }
 
-// The place of the first field of the piece that is cut.
-fn wrong_piece(place: u32, s: &[u8]) -> Option<u32>
+// No field of the piece is cut.
+fn check_piece(place: u32, s: &[u8]) -> Result<(), CatalogueError>
     requires { place ≤ 2 ^ 20 }
-    ensures is_the_first_cut_field { result ≡ wrong_piece place s.now }
+    ensures is_the_first_cut_field { result ≡ checked (wrong_piece place s.now) }
 {
-    if s.len() < 4 {
-        return Some(place);
-    }
-    if s.len() < 8 {
-        return Some(place + 4);
-    }
-    if s.len() < 10 {
-        return Some(place + 8);
-    }
-    if s.len() < 14 {
-        return Some(place + 10);
-    }
-    if s.len() < 16 {
-        return Some(place + 14);
-    }
-    None
+    refuse_if(s.len() < 4, place)?;
+    refuse_if(s.len() < 8, place + 4)?;
+    refuse_if(s.len() < 10, place + 8)?;
+    refuse_if(s.len() < 14, place + 10)?;
+    refuse_if(s.len() < 16, place + 14)
 }
 
-/// The place of the first wrong field of the entry, which stands behind the first `n` entries.
-pub(crate) fn wrong_entry(entries: &[u8], n: usize, place: u32, s: &[u8]) -> Option<u32>
+/// No field of the entry is wrong. It stands behind the first `n` entries.
+pub(crate) fn check_entry(
+    entries: &[u8],
+    n: usize,
+    place: u32,
+    s: &[u8],
+) -> Result<(), CatalogueError>
     requires { place ≤ 2 ^ 19 }
-    ensures is_the_first_wrong_field { result ≡ wrong_entry (walk n entries.now) place s.now }
+    ensures is_the_first_wrong_field { result ≡ checked (wrong_entry (walk n entries.now) place s.now) }
 {
-    if let Some(wrong) = wrong_length(place, s) {
-        return Some(wrong);
-    }
-    if let Some(wrong) = wrong_path(entries, n, place + 1, s) {
-        return Some(wrong);
-    }
+    check_length(place, s)?;
+    check_path(entries, n, place + 1, s)?;
     let len = path_len(s) as u32;
     let numbers = behind_path(s);
-    if let Some(wrong) = wrong_number(place + 1 + len, numbers) {
-        return Some(wrong);
-    }
-    wrong_piece(place + 5 + len, behind(numbers, 4))
+    check_number(place + 1 + len, numbers)?;
+    check_piece(place + 5 + len, behind(numbers, 4))
 }

@@ -3,5 +3,6 @@
 
 mod entries;
 mod fields;
+mod packed;
 pub mod state;
 mod whole;

@@ -1,29 +1,13 @@
 -- The laws of a list with one entry more, and of a list of which a number is withdrawn.
-use Rattle.std.proofs.Common.{◌≡◌, ℕ, ◌+◌, true, false, cond, not, ◌&&◌, ◌||◌, ltb, List, [], ◌∷◌, ◌++◌, sym, refl, ap, ◌∙◌, arith}
+use Rattle.std.proofs.Common.{◌≡◌, ℕ, ◌<◌, true, false, not, ◌&&◌, ◌||◌, ltb, List, [], ◌∷◌, ◌++◌, length, sym, refl, ap, ◌∙◌, arith, length-append}
 use Rattle.std.specs.Str.{bytes_eq}
+use Rattle.std.proofs.lemmas.List.{length-map}
 use Rattle.std.proofs.lemmas.Bool.{and_parts, and_from, or_parts, or_from, not-true, not_from_false}
 use Rattle.std.proofs.lemmas.Bool.Decides.{same_from_decides, Decides-like}
 use Rattle.std.proofs.lemmas.Slice.Eq.{bytes_eq-Decides}
-use Rattle.catalogue.specs.Entries.{Entry, known, numbered, distinct, look_up, answer, standing, stands_as, withdrawn}
-
--- the first entry of a list has the path, or the others are asked
-pub known_here : (es rest : List Entry) (p : List ℕ) (e : Entry) → es ≡ e ∷ rest → bytes_eq e.path p ≡ true → known es p ≡ true
-known_here es rest p e q t = ap (λ xs. known xs p) q ∙ ap (λ b. b || known rest p) t
-
-pub known_next : (es rest : List Entry) (p : List ℕ) (e : Entry) → es ≡ e ∷ rest → bytes_eq e.path p ≡ false → known es p ≡ known rest p
-known_next es rest p e q t = ap (λ xs. known xs p) q ∙ ap (λ b. b || known rest p) t
-
-pub look_up_here : (es rest : List Entry) (p : List ℕ) (e : Entry) → es ≡ e ∷ rest → bytes_eq e.path p ≡ true → look_up es p ≡ answer e
-look_up_here es rest p e q t = ap (λ xs. look_up xs p) q ∙ ap (λ b. cond b (answer e) (look_up rest p)) t
-
-pub look_up_next : (es rest : List Entry) (p : List ℕ) (e : Entry) → es ≡ e ∷ rest → bytes_eq e.path p ≡ false → look_up es p ≡ look_up rest p
-look_up_next es rest p e q t = ap (λ xs. look_up xs p) q ∙ ap (λ b. cond b (answer e) (look_up rest p)) t
+use Rattle.catalogue.specs.Entries.{Entry, Lawful, known, numbered, distinct, withdrawn, withdrawn_entry}
 
 module _ (n : ℕ) where
-  pub standing_push : (es : List Entry) (e : Entry) → standing n (es ++ e ∷ []) ≡ standing n es + cond (stands_as n e) 1 0
-  standing_push [] e = omega arith
-  standing_push (x ∷ es) e = omega (arith, standing_push es e)
-
   -- the laws do not look at what stands
   pub known_withdrawn : (es : List Entry) (p : List ℕ) → known (withdrawn n es) p ≡ known es p
   known_withdrawn [] p = refl
@@ -61,3 +45,20 @@ distinct_push (x ∷ es) e h k =
     let off : known es x.path ≡ false = not-true (known es x.path) b.0 in
     let new : known (es ++ e ∷ []) x.path ≡ false = known_push es e x.path off (same_sym e.path x.path ∙ o.0) in
     and_from (not (known (es ++ e ∷ []) x.path)) (distinct (es ++ e ∷ [])) (not_from_false (known (es ++ e ∷ []) x.path) new) (distinct_push es e b.1 o.1)
+
+-- the laws, of a list with one entry more and of a list of which a number is withdrawn
+pub lawful_push : (es : List Entry) (e : Entry) → Lawful es → length es < 256 → ltb 0 e.number ≡ true → known es e.path ≡ false → Lawful (es ++ e ∷ [])
+lawful_push es e l room number new =
+    record {
+      at_most_256 = omega (arith, length-append es (e ∷ []));
+      numbers_not_0 = numbered_push es e l.numbers_not_0 number;
+      paths_distinct = distinct_push es e l.paths_distinct new;
+    }
+
+pub lawful_withdrawn : (n : ℕ) (es : List Entry) → Lawful es → Lawful (withdrawn n es)
+lawful_withdrawn n es l =
+    record {
+      at_most_256 = omega (arith, length-map es (withdrawn_entry n), l.at_most_256);
+      numbers_not_0 = numbered_withdrawn n es ∙ l.numbers_not_0;
+      paths_distinct = distinct_withdrawn n es ∙ l.paths_distinct;
+    }

@@ -1,9 +1,12 @@
 -- What a catalogue means: a list of entries.
-use Rattle.std.specs.Prelude.{◌≡◌, ℕ, ◌+◌, ◌≤◌, Bool, true, false, cond, not, ◌&&◌, ◌||◌, List, [], ◌∷◌, map, length, ◌==◌, nat_lt}
+use Rattle.std.specs.Prelude.{◌≡◌, ℕ, ◌≤◌, Bool, true, cond, not, ◌&&◌, List, [], ◌∷◌, map, length, Ok, Err, Result, ◌==◌, nat_lt, count_by, find}
+use Rattle.std.specs.List.{list_all, list_any}
+use Rattle.std.specs.Option.{option_map_or}
 use Rattle.std.specs.Str.{bytes_eq}
 use Rattle.events.specs.declared.score.Piece.{Piece}
-use Rattle.catalogue.specs.declared.answers.Resolution.{Resolution}
-use Rattle.catalogue.specs.declared.answers.Resolution.TheVariants.{Found, Withdrawn, Unknown}
+use Rattle.catalogue.specs.declared.answers.Found.{Found}
+use Rattle.catalogue.specs.declared.answers.Unresolved.{Unresolved}
+use Rattle.catalogue.specs.declared.answers.Unresolved.TheVariants.{Withdrawn, Unknown}
 
 pub record Entry : Type 0 where
   pub path : List ℕ
@@ -11,14 +14,20 @@ pub record Entry : Type 0 where
   pub piece : Piece
   pub stands : Bool
 
--- what the entry of a path answers
-abbrev pub answer : Entry → Resolution
-answer e = cond e.stands (Found e.number e.piece) Withdrawn
+-- what a number and a piece are found as
+abbrev pub found : ℕ → Piece → Result Found Unresolved
+found n x = Ok (record { number = n; piece = x })
 
--- what a list answers to a path
-abbrev pub look_up : List Entry → List ℕ → Resolution
-look_up [] p = Unknown
-look_up (e ∷ es) p = cond (bytes_eq e.path p) (answer e) (look_up es p)
+-- what the entry of a path answers
+abbrev pub answer : Entry → Result Found Unresolved
+answer e = cond e.stands (found e.number e.piece) (Err Withdrawn)
+
+abbrev pub has_path : List ℕ → Entry → Bool
+has_path p e = bytes_eq e.path p
+
+-- what a list answers to a path: what its entry answers, if there is one
+abbrev pub look_up : List Entry → List ℕ → Result Found Unresolved
+look_up es p = option_map_or answer (find (has_path p) es) (Err Unknown)
 
 -- the entry stands and has the number
 abbrev pub stands_as : ℕ → Entry → Bool
@@ -26,8 +35,7 @@ stands_as n e = e.stands && e.number == n
 
 -- how many entries of a number stand
 abbrev pub standing : ℕ → List Entry → ℕ
-standing n [] = 0
-standing n (e ∷ es) = cond (stands_as n e) 1 0 + standing n es
+standing n es = count_by (stands_as n) es
 
 -- an entry once a number is withdrawn
 abbrev pub withdrawn_entry : ℕ → Entry → Entry
@@ -39,13 +47,11 @@ withdrawn n es = map (withdrawn_entry n) es
 
 -- some entry has the path
 abbrev pub known : List Entry → List ℕ → Bool
-known [] p = false
-known (e ∷ es) p = bytes_eq e.path p || known es p
+known es p = list_any (has_path p) es
 
 -- no number is 0
 abbrev pub numbered : List Entry → Bool
-numbered [] = true
-numbered (e ∷ es) = nat_lt 0 e.number && numbered es
+numbered es = list_all (λ e. nat_lt 0 e.number) es
 
 -- no two entries have the same path
 abbrev pub distinct : List Entry → Bool

@@ -1,8 +1,8 @@
 -- What a look-up and a withdrawal mean, without the order in which a list is read.
-use Rattle.std.specs.Prelude.{◌≡◌, ℕ, ◌<◌, Bool, true, false, ◌⊎◌, List, [], ◌∷◌, length, ◌≢◌, slice_index_or}
+use Rattle.std.specs.Prelude.{◌≡◌, ℕ, ◌<◌, Bool, true, false, ◌⊎◌, List, [], ◌∷◌, length, Err, ◌≢◌, slice_index_or}
 use Rattle.events.specs.declared.score.Piece.{Piece}
-use Rattle.catalogue.specs.declared.answers.Resolution.TheVariants.{Found, Withdrawn, Unknown}
-use Rattle.catalogue.specs.Entries.{Entry, Lawful, look_up, withdrawn}
+use Rattle.catalogue.specs.declared.answers.Unresolved.TheVariants.{Withdrawn, Unknown}
+use Rattle.catalogue.specs.Entries.{Entry, Lawful, found as found_as, look_up, withdrawn}
 
 -- an entry is one of a list
 abbrev pub Among : List Entry → Entry → Type 0
@@ -27,9 +27,9 @@ Lacks es p = (e : Entry) → Among es e → e.path ≢ p
 
 -- found exactly if an entry has the path and stands, withdrawn exactly if one has it and does not stand, unknown exactly if none has it
 pub record TellsTheList (es : List Entry) (p : List ℕ) : Type 0 where
-  pub found : (n : ℕ) (x : Piece) → Exactly (look_up es p ≡ Found n x) (Stands es p n x)
-  pub gone : Exactly (look_up es p ≡ Withdrawn) (Has es p false)
-  pub unknown : Exactly (look_up es p ≡ Unknown) (Lacks es p)
+  pub found : (n : ℕ) (x : Piece) → Exactly (look_up es p ≡ found_as n x) (Stands es p n x)
+  pub gone : Exactly (look_up es p ≡ Err Withdrawn) (Has es p false)
+  pub unknown : Exactly (look_up es p ≡ Err Unknown) (Lacks es p)
 
 abbrev pub LookUpTellsTheList : Type 0
 LookUpTellsTheList = (es : List Entry) → Lawful es → (p : List ℕ) → TellsTheList es p

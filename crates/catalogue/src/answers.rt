@@ -1,23 +1,42 @@
 //! What a catalogue answers.
 ghost use Rattle.std.specs.Prelude.{◌≡◌};
-ghost use Rattle.catalogue.specs.Refusals.{error_number, error_value};
+ghost use Rattle.catalogue.specs.Refusals.{error_number, error_value, refused_at};
 
 use events::score::Piece;
 use refusals::Layer;
+use std::error::Error;
+use std::fmt;
 
-/// What a catalogue answers to a path.
-#[derive(Clone, Copy)]
-pub enum Resolution {
-    /// An entry has the path and stands: its number and its piece.
-    Found { number: u32, piece: Piece },
+/// The score of a path: the number and the piece of an entry that has the path and stands.
+#[derive(Clone, Copy, Debug, PartialEq, Eq)]
+pub struct Found {
+    pub number: u32,
+    pub piece: Piece,
+}
+
+/// Why a path has no score.
+#[derive(Clone, Copy, Debug, PartialEq, Eq)]
+pub enum Unresolved {
     /// An entry has the path and is withdrawn.
     Withdrawn,
     /// No entry has the path.
     Unknown,
 }
 
+impl Unresolved {
+    /// The refusal of an insert at a place.
+    pub fn at(self, insert: u32) -> CatalogueError
+        ensures is_the_refusal_at_the_place { result ≡ refused_at self insert }
+    {
+        match self {
+            Unresolved::Withdrawn => CatalogueError::WithdrawnPath { insert },
+            Unresolved::Unknown => CatalogueError::UnknownPath { insert },
+        }
+    }
+}
+
 /// Why the catalogue refuses.
-#[derive(Clone, Copy)]
+#[derive(Clone, Copy, Debug, PartialEq, Eq)]
 pub enum CatalogueError {
     /// No entry has the path of the insert at this place.
     UnknownPath { insert: u32 },
@@ -29,26 +48,28 @@ pub enum CatalogueError {
     NotShelved { entries: u32 },
 }
 
-impl CatalogueError {
-    /// The number of the refusal.
-    pub fn number(self) -> u32
-        ensures is_the_number_of_the_refusal { result ≡ error_number self }
-    {
-        match self {
+/// The number of the refusal.
+impl From<CatalogueError> for u32 {
+    ghost from_gives = { λ error number. number ≡ error_number error };
+
+    fn from(error: CatalogueError) -> u32 {
+        match error {
             CatalogueError::UnknownPath { .. } => 8,
             CatalogueError::WithdrawnPath { .. } => 9,
             CatalogueError::Malformed { .. } => 25,
             CatalogueError::NotShelved { .. } => 26,
         }
     }
+}
 
+impl CatalogueError {
     /// The value that the refusal returns.
     pub fn value(self) -> u32
         ensures is_the_value_of_the_refusal { result ≡ error_value self }
     {
         match self {
-            CatalogueError::UnknownPath { insert } => insert,
-            CatalogueError::WithdrawnPath { insert } => insert,
+            CatalogueError::UnknownPath { insert } | CatalogueError::WithdrawnPath { insert } =>
+                insert,
             CatalogueError::Malformed { place } => place,
             CatalogueError::NotShelved { entries } => entries,
         }
@@ -61,3 +82,21 @@ impl CatalogueError {
         Layer::Catalogue
     }
 }
+
+impl fmt::Display for CatalogueError {
+    fn fmt<W: fmt::Write>(&self, f: &mut fmt::Formatter<W>) -> fmt::Result {
+        match self {
+            CatalogueError::UnknownPath { .. } => f.write_str("no score has this path"),
+            CatalogueError::WithdrawnPath { .. } => f.write_str(
+                "the score of this path is withdrawn",
+            ),
+            CatalogueError::Malformed { place } => write!(f, "malformed bytes at {place}"),
+            CatalogueError::NotShelved { entries } => write!(
+                f,
+                "a score cannot be shelved behind {entries} others"
+            ),
+        }
+    }
+}
+
+impl Error for CatalogueError {}

@@ -7,14 +7,14 @@ ghost use Rattle.catalogue.specs.Laws.{LookUpTellsTheList, WithdrawingTouchesOnl
 
 pub mod answers;
 
-use answers::Resolution;
+use answers::{Found, Unresolved};
 
 /// What can be asked for scores by their paths. Whatever keeps them, it means a list of entries: at most 256, with distinct paths and numbers that are not 0.
 pub trait Catalogue {
     ghost entries: { Self → List Entry };
 
     /// The score of a path, if it stands. Changes nothing.
-    fn resolve(&self, path: &[u8]) -> Resolution
+    fn resolve(&self, path: &[u8]) -> Result<Found, Unresolved>
         ensures resolve_tells_the_list { result ≡ look_up (entries self.now) path.now }
         ensures found_if_it_stands { LookUpTellsTheList };
 

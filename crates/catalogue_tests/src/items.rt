@@ -2,15 +2,10 @@
 use anyhow::Context;
 use std::alloc::Global;
 
-// The bytes of a number, the highest first.
-fn push_number(bytes: &mut Vec<u8>, number: u64, width: u64) -> anyhow::Result<()> {
-    for at in 0..8u64 {
-        let place = 7 - at;
-        if place < width {
-            let byte = (number >> (8 * place)) & 0xff;
-            bytes.push(byte as u8)?;
-        }
-    }
+// The last bytes of a number, the highest first.
+fn push_number(bytes: &mut Vec<u8>, number: u64, width: usize) -> anyhow::Result<()> {
+    let all = number.to_be_bytes();
+    bytes.extend_from_slice(&all[all.len().saturating_sub(width)..])?;
     Ok(())
 }
 
@@ -21,7 +16,7 @@ fn push_once(bytes: &mut Vec<u8>, item: &str) -> anyhow::Result<()> {
         return Ok(());
     }
     let (number, width) = item.split_once('/').context("no width")?;
-    push_number(bytes, number.parse::<u64>()?, width.parse::<u64>()?)
+    push_number(bytes, number.parse::<u64>()?, width.parse::<usize>()?)
 }
 
 /// Adds the bytes of an item.

@@ -12,26 +12,25 @@
 
 mod calls;
 mod items;
+mod tried;
 
-use calls::{Call, Tried, read_call};
+use calls::{Call, read_call};
 use std::alloc::Global;
 use std::io::{BufRead, BufReader, BufWriter, Write};
+use tried::Tried;
 
-/// A line, and the call that it says.
+/// A line, and the call that it says, if it can be read.
 #[derive(Drop)]
 struct Line {
     text: String,
-    call: Call,
+    call: Option<Call>,
 }
 
 fn read_lines(rt: &HostRuntime, heap: Global) -> anyhow::Result<Vec<Line>> {
     let mut lines = Vec::new(heap);
     for line in BufReader::new(heap, rt.stdin())?.lines(heap) {
         let text = line?;
-        let call = match read_call(heap, text.as_str()) {
-            Ok(call) => call,
-            Err(_) => Call::Bad,
-        };
+        let call = read_call(heap, text.as_str()).ok();
         lines.push(Line { text, call })?;
     }
     Ok(lines)
@@ -41,7 +40,10 @@ fn answer_all(rt: &HostRuntime, heap: Global, lines: &[Line]) -> anyhow::Result<
     let mut out = BufWriter::new(heap, rt.stdout())?;
     let mut tried = Tried::new();
     for line in lines {
-        let answer = tried.answer(heap, line.text.as_str(), &line.call)?;
+        let answer = match &line.call {
+            Some(call) => tried.answer(heap, line.text.as_str(), call)?,
+            None => String::from_str(heap, "bad line")?,
+        };
         out.write_all(answer.as_bytes())?;
         out.write_all(b"\n")?;
     }

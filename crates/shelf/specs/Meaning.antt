@@ -1,8 +1,7 @@
 -- What a shelf means.
 use Rattle.std.specs.Prelude.{List}
 use Rattle.catalogue.specs.Entries.{Entry}
-use Rattle.shelf.specs.Places.{shelved_in}
 use Rattle.shelf.specs.declared.table.Shelf.{Shelf}
 
 abbrev pub entries_of : Shelf → List Entry
-entries_of s = shelved_in s.places s.count
+entries_of s = s.entries.items

@@ -1,24 +1,9 @@
-use Rattle.std.proofs.Common.{◌+◌, ◌-◌, sym, ap, ◌∙◌, arith}
-use Rattle.std.specs.Str.{bytes_eq}
-use Rattle.catalogue.specs.Entries.{known}
-use Rattle.catalogue.proofs.Lists.{known_here, known_next}
-use Rattle.binder.specs.Entries.{entry_of, walk}
-use Rattle.binder.proofs.Walks.{walk_more}
+use Rattle.std.proofs.Common.{rules, tests}
+use Rattle.std.proofs.lemmas.Iterator.Consumers.{YieldsList-from_first}
+use Rattle.std.proofs.lemmas.Iterator.Search.{any_from_yields_List}
+use Rattle.catalogue.specs.Entries.{has_path}
+use Rattle.binder.specs.Left.{entries_left}
 use Rattle.binder.proofs.entries.knows_path.Goals as goal
 
-pub returns-then-same : goal.returns-then-same
-returns-then-same c =
-    let path = c.args.path.now in
-    let rest = c.loop.rest.now in
-    let more = walk_more c.args.n c.loop.counter rest (omega arith) in
-    let hit = ap (λ p. bytes_eq p path) (sym c.path_of.ensures.is_the_path) ∙ sym c.if-same.ensures.value in
-    record { tells_whether_known = sym (known_here _ _ path (entry_of rest) more hit) ∙ c.loop.invariant }
-
-pub loop-preserved : goal.loop-preserved
-loop-preserved c =
-    let path = c.args.path.now in
-    let rest = c.loop.rest.now in
-    let left = c.args.n - (c.loop.counter + 1) in
-    let more = walk_more c.args.n c.loop.counter rest (omega arith) in
-    let miss = ap (λ p. bytes_eq p path) (sym c.path_of.ensures.is_the_path) ∙ sym c.if-same.ensures.value in
-    ap (λ r. known (walk left r) path) c.behind_entry-rest.ensures.is_behind_the_entry ∙ sym (known_next _ _ path (entry_of rest) more miss) ∙ c.loop.invariant
+pub returns : goal.returns
+returns c = record { tells_whether_known = any_from_yields_List (has_path c.args.path.now) c.any.new.self _ c.any.result c.any.ensures.ran (YieldsList-from_first (λ e. e) entries_left {s = c.first.result} _ c.first.ensures.are_the_first) (λ x b q k. search (rules, tests)) }

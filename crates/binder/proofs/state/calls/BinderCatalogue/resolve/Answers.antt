@@ -1,43 +1,43 @@
-use Rattle.std.proofs.Common.{◌+◌, ◌-◌, false, get_or, sym, ap, ◌∙◌, arith}
-use Rattle.std.specs.Str.{bytes_eq}
-use Rattle.catalogue.specs.Entries.{look_up}
-use Rattle.catalogue.proofs.Lists.{look_up_here, look_up_next}
+use Rattle.std.proofs.Common.{◌≡◌, ◌+◌, ◌≤◌, length, drop, Some, None, Err, rules, tests, sym, ap, ◌∙◌, arith}
+use Rattle.std.specs.Option.{option_map_or}
+use Rattle.std.proofs.lemmas.Iterator.{YieldsList-from_slice, YieldsList-from_zip}
+use Rattle.std.proofs.lemmas.Iterator.Consumers.{YieldsList-from_first}
+use Rattle.std.proofs.lemmas.Iterator.Search.{find_from_yields_List}
+use Rattle.catalogue.specs.declared.answers.Unresolved.TheVariants.{Unknown}
+use Rattle.catalogue.specs.Entries.{answer, has_path}
 use Rattle.catalogue.proofs.LookUp.{look_up_tells_the_list}
-use Rattle.binder.specs.Binding.{flagged, flagged_entry}
-use Rattle.binder.specs.Entries.{entry_of, walk, count_of}
-use Rattle.binder.proofs.Walks.{walk_more, walk_end}
+use Rattle.binder.specs.Binding.{flagged_entry}
+use Rattle.binder.specs.Entries.{count_of, listed}
+use Rattle.binder.proofs.Good.{length_walk}
+use Rattle.binder.specs.Left.{entries_left}
+use Rattle.binder.proofs.Flags.{look_up_flagged}
 use Rattle.binder.proofs.state.calls.BinderCatalogue.resolve.Goals as goal
 
-pub returns-then-same : goal.returns-then-same
-returns-then-same c =
+pub returns-in_err-entry : goal.returns-in_err-entry
+returns-in_err-entry c =
     let path = c.args.path.now in
+    let bs = c.args.self.now.bytes.now in
     let fs = c.args.self.now.flags.withdrawn in
-    let rest = c.loop-i.rest.now in
-    let i = c.loop-i.i in
-    let e = flagged_entry (get_or fs i false) (entry_of rest) in
-    let more = ap (flagged i fs) (walk_more (count_of c.args.self.now.bytes.now) i rest (omega arith)) in
-    let hit = ap (λ p. bytes_eq p path) (sym c.path_of.ensures.is_the_path) ∙ sym c.if-same.ensures.value in
+    let fit : 0 + length (listed bs) ≤ length fs = omega (arith, length_walk (count_of bs) (drop 7 bs), c.args.self.now.at_most_256, c.args.self.now.a_flag_for_each) in
+    let finds = find_from_yields_List (λ x. has_path path x.0) c.find-found.new.self _ c.find-found.result c.find-found.ensures.ran (YieldsList-from_zip (YieldsList-from_first (λ e. e) entries_left (listed bs) (ap entries_left c.zip-flagged.ensures.first ∙ c.of.ensures.are_all)) (YieldsList-from_slice fs cc)) (λ x b q k. search (rules, tests)) in
+    let none : c.find-found.result ≡ None = search rules in
+    let there = rw none at finds in
+    let tells : c.from_residual.result ≡ Err Unknown = search rules in
     record {
-      resolve_tells_the_list = c.answer_of.ensures.is_its_answer ∙ sym (look_up_here _ _ path e more hit) ∙ c.loop-i.invariant;
+      resolve_tells_the_list = tells ∙ ap (λ o. option_map_or (λ x. answer (flagged_entry x.1 x.0)) o (Err Unknown)) there ∙ sym (look_up_flagged path (listed bs) 0 fs fit);
       found_if_it_stands = look_up_tells_the_list;
     }
 
-pub loop-i-preserved : goal.loop-i-preserved
-loop-i-preserved c =
-    let path = c.args.path.now in
-    let fs = c.args.self.now.flags.withdrawn in
-    let rest = c.loop-i.rest.now in
-    let i = c.loop-i.i in
-    let n = count_of c.args.self.now.bytes.now in
-    let e = flagged_entry (get_or fs i false) (entry_of rest) in
-    let more = ap (flagged i fs) (walk_more n i rest (omega arith)) in
-    let miss = ap (λ p. bytes_eq p path) (sym c.path_of.ensures.is_the_path) ∙ sym c.if-same.ensures.value in
-    ap (λ r. look_up (flagged (i + 1) fs (walk (n - (i + 1)) r)) path) c.behind_entry-rest.ensures.is_behind_the_entry ∙ sym (look_up_next _ _ path e more miss) ∙ c.loop-i.invariant
-
 pub returns : goal.returns
 returns c =
-    let end = walk_end (count_of c.args.self.now.bytes.now) c.loop-i.i c.loop-i.rest.now (omega arith) in
+    let path = c.args.path.now in
+    let bs = c.args.self.now.bytes.now in
+    let fs = c.args.self.now.flags.withdrawn in
+    let fit : 0 + length (listed bs) ≤ length fs = omega (arith, length_walk (count_of bs) (drop 7 bs), c.args.self.now.at_most_256, c.args.self.now.a_flag_for_each) in
+    let finds = find_from_yields_List (λ x. has_path path x.0) c.find-found.new.self _ c.find-found.result c.find-found.ensures.ran (YieldsList-from_zip (YieldsList-from_first (λ e. e) entries_left (listed bs) (ap entries_left c.zip-flagged.ensures.first ∙ c.of.ensures.are_all)) (YieldsList-from_slice fs cc)) (λ x b q k. search (rules, tests)) in
+    let some : c.find-found.result ≡ Some (c.in_ok-entry.entry, c.in_ok-entry.withdrawn) = search rules in
+    let there = rw some at finds in
     record {
-      resolve_tells_the_list = sym (ap (λ es. look_up (flagged c.loop-i.i c.args.self.now.flags.withdrawn es) c.args.path.now) end) ∙ c.loop-i.invariant;
+      resolve_tells_the_list = c.answer.ensures.is_its_answer ∙ ap (λ o. option_map_or (λ x. answer (flagged_entry x.1 x.0)) o (Err Unknown)) there ∙ sym (look_up_flagged path (listed bs) 0 fs fit);
       found_if_it_stands = look_up_tells_the_list;
     }

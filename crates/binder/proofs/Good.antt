@@ -1,25 +1,21 @@
--- What it says of packed bytes that no field of them is wrong. The law of the trait Catalogue rests on this, so it stands here and not in proofs/.
+-- What it says of packed bytes that no field of them is wrong.
 use Rattle.std.proofs.Common.{◌≡◌, ℕ, zero, suc, ◌+◌, ◌≤◌, Bool, true, false, ◌||◌, eqb, ltb, List, [], ◌∷◌, ◌++◌, length, take, drop, Some, None, codes, Option, sym, refl, ap, ◌∙◌, append_assoc, arith, length-drop}
 use Rattle.std.proofs.lemmas.Slice.Eq.{bytes_eq-Decides}
 use Rattle.std.proofs.lemmas.List.{append-nil, nil_from_length}
 use Rattle.std.proofs.lemmas.Bool.{or_parts, or_from, not-false, not_from_true, ltb-true, ltb-false, eqb-true, eqb-false, lt-ltb, le-ltb, eq-eqb, ne_eqb}
+use Rattle.std.specs.Option.{option_or}
 use Rattle.catalogue.specs.Entries.{Entry, Lawful, known, numbered, distinct}
 use Rattle.catalogue.proofs.Lists.{numbered_push, distinct_push}
-use Rattle.binder.specs.Binding.{fine}
-use Rattle.binder.specs.Entries.{path_length, path_of, behind_path, entry_of, entry_length, behind_entry, walk, count_of, listed, or_else, wrong_if, wrong_head, wrong_length, wrong_path, wrong_number, wrong_piece, wrong_entry, wrong_from, wrong}
+use Rattle.binder.specs.Entries.{path_length, path_of, behind_path, entry_of, entry_length, behind_entry, walk, count_of, listed, wrong_if, wrong_head, wrong_length, wrong_path, wrong_number, wrong_piece, wrong_entry, wrong_from, wrong}
 use Rattle.binder.specs.Fields.{be16, be32, short}
 
-or_none : (a b : Option ℕ) → or_else a b ≡ None → (a ≡ None) × (b ≡ None)
+or_none : (a b : Option ℕ) → option_or a b ≡ None → (a ≡ None) × (b ≡ None)
 or_none None b h = (refl, h)
 or_none (Some p) b h = let z : ◌≡◌ {A = ℕ} 0 1 = cc in absurd (omega arith)
 
 not_wrong : (b : Bool) (p : ℕ) → wrong_if b p ≡ None → b ≡ false
 not_wrong true p h = let z : ◌≡◌ {A = ℕ} 0 1 = cc in absurd (omega arith)
 not_wrong false p h = refl
-
-pub fine_none : (o : Option ℕ) → fine o ≡ true → o ≡ None
-fine_none None h = refl
-fine_none (Some p) h = let z : ◌≡◌ {A = ℕ} 0 1 = cc in absurd (omega arith)
 
 -- the fields before the entries
 pub record GoodHead (bs : List ℕ) : Type 0 where
@@ -43,8 +39,8 @@ good_head bs h =
     }
 
 -- and back
-none_or : (a b : Option ℕ) → a ≡ None → b ≡ None → or_else a b ≡ None
-none_or a b p q = ap (λ o. or_else o b) p ∙ q
+none_or : (a b : Option ℕ) → a ≡ None → b ≡ None → option_or a b ≡ None
+none_or a b p q = ap (λ o. option_or o b) p ∙ q
 
 none_if : (b : Bool) (p : ℕ) → b ≡ false → wrong_if b p ≡ None
 none_if b p h = ap (λ t. wrong_if t p) h
@@ -75,8 +71,8 @@ pub good_entry : (before : List Entry) (p : ℕ) (xs : List ℕ) → wrong_entry
 good_entry before p xs h =
     let n = path_length xs in
     let ys = behind_path xs in
-    let numbers = or_else (wrong_number (p + 1 + n) ys) (wrong_piece (p + 5 + n) (drop 4 ys)) in
-    let first = or_none (wrong_length p xs) (or_else (wrong_path before (p + 1) xs) numbers) h in
+    let numbers = option_or (wrong_number (p + 1 + n) ys) (wrong_piece (p + 5 + n) (drop 4 ys)) in
+    let first = or_none (wrong_length p xs) (option_or (wrong_path before (p + 1) xs) numbers) h in
     let second = or_none (wrong_path before (p + 1) xs) numbers first.1 in
     let third = or_none (wrong_number (p + 1 + n) ys) (wrong_piece (p + 5 + n) (drop 4 ys)) second.1 in
     let a = or_parts (short 1 xs) (eqb n 0 || ltb 64 n) (not_wrong _ p first.0) in

@@ -1,12 +1,8 @@
--- What a binder means keeps the laws of a catalogue's list. The trait's law rests on this, so it stands here and not in proofs/.
-use Rattle.std.proofs.Common.{◌≡◌, ℕ, suc, ◌+◌, Bool, not, ◌&&◌, ◌||◌, ltb, List, [], ◌∷◌, length, refl, ap, ◌∙◌, arith}
+-- What a binder means keeps the laws of a catalogue's list.
+use Rattle.std.proofs.Common.{◌≡◌, ℕ, suc, ◌+◌, Bool, not, ◌&&◌, ◌||◌, ltb, List, [], ◌∷◌, length, sym, refl, ap, ◌∙◌, arith}
 use Rattle.std.specs.Str.{bytes_eq}
 use Rattle.catalogue.specs.Entries.{Entry, Lawful, known, numbered, distinct}
-use Rattle.binder.specs.declared.state.Binder.{Binder}
 use Rattle.binder.specs.Binding.{flagged}
-use Rattle.binder.specs.Entries.{listed, wrong}
-use Rattle.binder.specs.Good.{fine_none, lawful_listed}
-use Rattle.binder.specs.Meaning.{entries_of}
 
 -- the laws do not look at what stands
 length_flagged : (i : ℕ) (fs : List Bool) (es : List Entry) → length (flagged i fs es) ≡ length es
@@ -33,7 +29,11 @@ lawful_flagged fs es l =
       paths_distinct = distinct_flagged 0 fs es ∙ l.paths_distinct;
     }
 
-pub lawful_binder : (b : Binder) → Lawful (entries_of b)
-lawful_binder b =
-    let bs = b.bytes.now in
-    lawful_flagged b.flags.withdrawn (listed bs) (lawful_listed bs (fine_none (wrong bs) b.good))
+pub lawful_reflagged : (fs gs : List Bool) (es : List Entry) → Lawful (flagged 0 fs es) → Lawful (flagged 0 gs es)
+lawful_reflagged fs gs es l =
+    lawful_flagged gs es
+    (record {
+      at_most_256 = omega (arith, length_flagged 0 fs es, l.at_most_256);
+      numbers_not_0 = sym (numbered_flagged 0 fs es) ∙ l.numbers_not_0;
+      paths_distinct = sym (distinct_flagged 0 fs es) ∙ l.paths_distinct;
+    })

@@ -1,7 +1,7 @@
 use Rattle.std.proofs.Common.{◌≡◌, ◌+◌, ◌-◌, ◌*◌, ◌≤◌, []}
 use Rattle.binder.specs.Entries.{walk, wrong_from}
 use Rattle.binder.proofs.Walks.{behind_entries}
-use Rattle.binder.proofs.whole.wrong_entries.Given as goal
+use Rattle.binder.proofs.whole.check_entries.Given as goal
 
 abbrev pub invariant-loop-i : goal.invariant-loop-i
 invariant-loop-i l =
