@@ -13,10 +13,10 @@ use Rattle.budget.proofs.Exact.{calm, calm_by, evented, documented_by, counted_e
 use Rattle.budget.proofs.Sticks.{counted_well}
 
 abbrev pub of : EventKind → Seen → Seen
-of k e = record { kind = k; anchor = e.anchor; value = e.value; tag = e.tag; style = e.style }
+of k e = record e { kind = k }
 
 abbrev pub under : EnforcingPolicy → Model → Model
-under p m = record { budget = m.budget; policy = p; merging = m.merging; report = m.report; around = m.around; anchors = m.anchors }
+under p m = record m { policy = p }
 
 adds_document : (p : EnforcingPolicy) (e : Seen) (m : Model) → Adds (event (of DocumentStart e)) (under p m) (documented_by p (evented (under p m)))
 adds_document AllContent e m = search rules

@@ -1,34 +1,29 @@
--- The first limit above its bound; and where there is none, the bounds of all.
-use Rattle.std.proofs.Common.{◌≡◌, ℕ, ◌+◌, ◌^◌, ◌<◌, ◌≤◌, Bool, true, false, cond, List, ◌∷◌, length, get_or, drop, Some, None, Option, refl, ap, ◌∙◌, arith}
-use Rattle.std.proofs.lemmas.List.{drop_more, drop_all}
+-- Where no limit is above its bound, the bounds of all.
+use Rattle.std.proofs.Common.{◌≡◌, ℕ, ◌^◌, ◌≤◌, Bool, true, false, cond, List, [], ◌∷◌, Some, Option, is_none, refl, arith}
+use Rattle.std.specs.List.{find}
 use Rattle.std.proofs.lemmas.Bool.{ltb-false}
 use Rattle.budget.specs.declared.limits.Budget.{Budget}
 use Rattle.budget.specs.declared.limits.AliasLimits.{AliasLimits}
+use Rattle.budget.specs.declared.limits.Limits.{Limits}
 use Rattle.budget.specs.declared.limits.LimitField.{LimitField}
-use Rattle.budget.specs.Limits.{first_of, too_large, given_for, bound_of, is_none, allowed, or_absent}
-
-module _ {A : Type 0} (t : A → Bool) (xs : List A) (i : ℕ) (d : A) (h : i < length xs) where
-  pub first_is_here : t (get_or xs i d) ≡ true → first_of t (drop i xs) ≡ Some (get_or xs i d)
-  unfolding first_of
-  first_is_here o = ap (first_of t) (drop_more xs i d h) ∙ ap (λ b. cond b (Some (get_or xs i d)) (first_of t (drop (i + 1) xs))) o
-
-  pub first_is_later : t (get_or xs i d) ≡ false → first_of t (drop i xs) ≡ first_of t (drop (i + 1) xs)
-  unfolding first_of
-  first_is_later o = ap (first_of t) (drop_more xs i d h) ∙ ap (λ b. cond b (Some (get_or xs i d)) (first_of t (drop (i + 1) xs))) o
-
-pub none_is_left : {A : Type 0} (t : A → Bool) (xs : List A) (i : ℕ) → length xs ≤ i → first_of t (drop i xs) ≡ None
-unfolding first_of
-none_is_left t xs i h = ap (first_of t) (drop_all i xs h)
+use Rattle.budget.specs.Limits.{fields, too_large, given_for, bound_of, allowed, or_absent}
 
 -- where no limit is too large, the first is not, and none of the others is
 peeled : (b : Bool) (f : LimitField) (o : Option LimitField) → is_none (cond b (Some f) o) ≡ true → (b ≡ false) × (is_none o ≡ true)
 peeled true f o e = let z : ◌≡◌ {A = ℕ} 0 1 = cc in absurd (omega arith)
 peeled false f o e = (refl, e)
 
-module _ (b : Budget) (a : AliasLimits) where
-  peel : (f : LimitField) (fs : List LimitField) → is_none (first_of (too_large b a) (f ∷ fs)) ≡ true → (given_for f b a ≤ bound_of f) × (is_none (first_of (too_large b a) fs) ≡ true)
-  unfolding first_of
-  peel f fs e = let p = peeled (too_large b a f) f (first_of (too_large b a) fs) e in (ltb-false (bound_of f) (given_for f b a) p.0, p.1)
+module _ (l : Limits) where
+  abbrev AtMostItsBound : LimitField → Type 0
+  AtMostItsBound f = given_for f l ≤ bound_of f
+
+  abbrev Each : List LimitField → Type 0
+  Each [] = Unit {0}
+  Each (f ∷ fs) = AtMostItsBound f × Each fs
+
+  each : (fs : List LimitField) → is_none (find (too_large l) fs) ≡ true → Each fs
+  each [] e = tt
+  each (f ∷ fs) e = let p = peeled (too_large l f) f (find (too_large l) fs) e in (ltb-false (bound_of f) (given_for f l) p.0, each fs p.1)
 
 -- the bounds of the limits that counting rests on
 pub record Bounds (b : Budget) (a : AliasLimits) : Type 0 where
@@ -48,37 +43,23 @@ pub record Bounds (b : Budget) (a : AliasLimits) : Type 0 where
   pub stack : a.max_replay_stack_depth ≤ 2 ^ 30
   pub expansions : a.max_alias_expansions_per_anchor ≤ 2 ^ 30
 
-pub bounds : (b : Budget) (a : AliasLimits) → allowed b a ≡ true → Bounds b a
-bounds b a e =
-    let p0 = peel b a _ _ e in
-    let p1 = peel b a _ _ p0.1 in
-    let p2 = peel b a _ _ p1.1 in
-    let p3 = peel b a _ _ p2.1 in
-    let p4 = peel b a _ _ p3.1 in
-    let p5 = peel b a _ _ p4.1 in
-    let p6 = peel b a _ _ p5.1 in
-    let p7 = peel b a _ _ p6.1 in
-    let p8 = peel b a _ _ p7.1 in
-    let p9 = peel b a _ _ p8.1 in
-    let p10 = peel b a _ _ p9.1 in
-    let p11 = peel b a _ _ p10.1 in
-    let p12 = peel b a _ _ p11.1 in
-    let p13 = peel b a _ _ p12.1 in
-    let p14 = peel b a _ _ p13.1 in
+pub bounds : (l : Limits) → allowed l ≡ true → Bounds l.budget l.alias_limits
+bounds l e =
+    let p = each l fields e in
     record {
-      bytes = p0.0;
-      events = p1.0;
-      aliases = p2.0;
-      anchors = p3.0;
-      depth = p4.0;
-      inclusions = p5.0;
-      documents = p6.0;
-      nodes = p7.0;
-      scalars = p8.0;
-      merges = p9.0;
-      least = p10.0;
-      multiplier = p11.0;
-      replayed = p12.0;
-      stack = p13.0;
-      expansions = p14.0;
+      bytes = p.0;
+      events = p.1.0;
+      aliases = p.1.1.0;
+      anchors = p.1.1.1.0;
+      depth = p.1.1.1.1.0;
+      inclusions = p.1.1.1.1.1.0;
+      documents = p.1.1.1.1.1.1.0;
+      nodes = p.1.1.1.1.1.1.1.0;
+      scalars = p.1.1.1.1.1.1.1.1.0;
+      merges = p.1.1.1.1.1.1.1.1.1.0;
+      least = p.1.1.1.1.1.1.1.1.1.1.0;
+      multiplier = p.1.1.1.1.1.1.1.1.1.1.1.0;
+      replayed = p.1.1.1.1.1.1.1.1.1.1.1.1.0;
+      stack = p.1.1.1.1.1.1.1.1.1.1.1.1.1.0;
+      expansions = p.1.1.1.1.1.1.1.1.1.1.1.1.1.1.0;
     }

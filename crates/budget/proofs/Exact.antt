@@ -9,7 +9,8 @@ use Rattle.budget.specs.declared.breach.BudgetBreach.TheVariants.{SequenceUnbala
 use Rattle.budget.specs.declared.policy.EnforcingPolicy.{EnforcingPolicy}
 use Rattle.budget.specs.declared.policy.EnforcingPolicy.TheVariants.{AllContent, PerDocument}
 use Rattle.budget.specs.declared.containers.ContainerState.{ContainerState}
-use Rattle.budget.specs.Counts.{Answer, up, held, count_event, count_node, count_bytes, count_alias, count_document, count_merge_key, count_anchor, deepen, judged, cleared, with_events, with_nodes, with_bytes, with_aliases, with_documents, with_merge_keys, with_max_depth, with_anchors}
+use Rattle.budget.specs.Counts.{Answer, up, count_event, count_node, count_bytes, count_alias, count_document, count_merge_key, count_anchor, deepen, judged, cleared, with_events, with_nodes, with_bytes, with_aliases, with_documents, with_merge_keys, with_max_depth, with_anchors}
+use Rattle.budget.specs.Limits.{within}
 use Rattle.budget.specs.Flags.{trues, is_new, defined}
 use Rattle.budget.specs.Merging.{is_merge}
 use Rattle.budget.specs.Nesting.{turn_top, key_next, entered, closing}
@@ -37,11 +38,11 @@ tested : (x : Bool) (b : BudgetBreach) → ◌≡◌ {A = Answer} (cond x (Err b
 tested true b e = ok_or_err b (Err b) refl e
 tested false b e = refl
 
-pub within : (n limit : ℕ) (b : BudgetBreach) → held n limit b ≡ Ok tt → n ≤ limit
-within n limit b e = ltb-false limit n (tested (ltb limit n) b e)
+pub not_above : (n limit : ℕ) (b : BudgetBreach) → within n limit b ≡ Ok tt → n ≤ limit
+not_above n limit b e = ltb-false limit n (tested (ltb limit n) b e)
 
-exact : (n k limit : ℕ) (b : BudgetBreach) → limit ≤ 2 ^ 30 → held (up n k) limit b ≡ Ok tt → up n k ≡ n + k
-exact n k limit b h e = let w = within (up n k) limit b e in omega arith
+exact : (n k limit : ℕ) (b : BudgetBreach) → limit ≤ 2 ^ 30 → within (up n k) limit b ≡ Ok tt → up n k ≡ n + k
+exact n k limit b h e = let w = not_above (up n k) limit b e in omega arith
 
 -- each step of the counts without a breach
 
@@ -164,8 +165,8 @@ module _ (a : AliasLimits) where
       let s3 = onward (counting (count_bytes k) m2) (enter_placed e) m3 s2.0 (bytes_exact k m2 w) in
       s1.1 ∙ s2.1 ∙ s3.1 ∙ defines e.anchor (with_around m3 (entered e.kind m.around))
 
-  alias_exact : (turns : Bool) (m : Model) → Bounds m.budget a → (alias turns m).1 ≡ Ok tt → (alias turns m).0 ≡ cond turns (turning Alias (aliased m)) (aliased m)
-  alias_exact turns m w t = (onward (counting count_alias m) (λ n. good (cond turns (turning Alias n) n)) (aliased m) t (aliases_exact m w)).1
+  alias_exact : (m : Model) → Bounds m.budget a → (alias m).1 ≡ Ok tt → (alias m).0 ≡ turning Alias (aliased m)
+  alias_exact m w t = (onward (counting count_alias m) (λ n. good (turning Alias n)) (aliased m) t (aliases_exact m w)).1
 
   document_exact : (p : EnforcingPolicy) (m : Model) → Bounds m.budget a → (document_by p m).1 ≡ Ok tt → (document_by p m).0 ≡ documented_by p m
   document_exact AllContent m w t = documents_exact m w t
@@ -188,7 +189,7 @@ kind_exact a SequenceStart e m w t = enter_exact a e m w t
 kind_exact a MappingStart e m w t = enter_exact a e m w t
 kind_exact a SequenceEnd e m w t = leave_exact SequenceEnd m.around m t
 kind_exact a MappingEnd e m w t = leave_exact MappingEnd m.around m t
-kind_exact a Alias e m w t = alias_exact a true m w t
+kind_exact a Alias e m w t = alias_exact a m w t
 kind_exact a DocumentStart e m w t = document_exact a m.policy m w t
 kind_exact a DocumentEnd e m w t = refl
 kind_exact a StreamStart e m w t = refl
@@ -196,7 +197,7 @@ kind_exact a StreamEnd e m w t = refl
 
 input_exact : (a : AliasLimits) (i : Input) (m : Model) → Bounds m.budget a → (by_input i (evented m)).1 ≡ Ok tt → (by_input i (evented m)).0 ≡ calm i m
 input_exact a (event e) m w t = kind_exact a e.kind e (evented m) w t
-input_exact a reference m w t = alias_exact a false (evented m) w t
+input_exact a reference m w t = aliases_exact a (evented m) w t
 
 -- what an input does where the answer is good
 pub counted_exact : (a : AliasLimits) (i : Input) (m : Model) → Bounds m.budget a → (counted i m).1 ≡ Ok tt → (counted i m).0 ≡ calm i m

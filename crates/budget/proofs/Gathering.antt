@@ -1,8 +1,10 @@
 -- What a run without a breach has gathered in one of its counts.
 use Rattle.std.proofs.Common.{◌≡◌, ◌+◌, max, Bool, true, false, cond, ◌||◌, List, [], ◌∷◌, map, None, Ok, sym, refl, ap, ◌∙◌, arith}
+use Rattle.std.proofs.Math.Bool.{or-false, or_assoc}
+use Rattle.std.specs.List.{list_any}
 use Rattle.budget.specs.Observed.{Input}
 use Rattle.budget.specs.Model.{Model, observed}
-use Rattle.budget.specs.Runs.{run, Moment, moments, gathered, any, since_last}
+use Rattle.budget.specs.Runs.{run, Moment, moments, gathered, since_last}
 use Rattle.budget.proofs.Since.{gather_turn}
 use Rattle.budget.proofs.Sticks.{clean_before, clean_answer}
 
@@ -18,16 +20,8 @@ sums = record { assoc = λ a b c. omega arith; left = λ a. omega arith; right =
 pub maxima : Together max 0
 maxima = record { assoc = λ a b c. omega arith; left = λ a. omega arith; right = λ a. omega arith }
 
-or_assoc : (a b c : Bool) → ((a || b) || c) ≡ (a || (b || c))
-or_assoc true b c = refl
-or_assoc false b c = refl
-
-or_right : (a : Bool) → (a || false) ≡ a
-or_right true = refl
-or_right false = refl
-
 pub tests : Together ◌||◌ false
-tests = record { assoc = or_assoc; left = λ a. refl; right = or_right }
+tests = record { assoc = or_assoc; left = λ a. refl; right = or-false }
 
 abbrev pub at : Input → Model → Moment
 at i m = record { input = i; before = m }
@@ -43,7 +37,7 @@ pub record Turns {S : Type 0} (op : S → S → S) (o : S) (Holds : Model → Ty
 
 module _ {S : Type 0} (op : S → S → S) (o : S) (t : Together op o) (Holds : Model → Type 0) (g : Model → S) (w : Moment → S) (f : Moment → Bool)
     (law : (i : Input) (m : Model) → Holds m → (observed i m).1 ≡ Ok tt → Turns op o Holds g w f i m) where
-  gather : (is : List Input) (m : Model) → Holds m → (run is m).report.breached ≡ None → g (run is m) ≡ op (cond (any f (moments is m)) o (g m)) (gathered op o w (since_last f (moments is m)))
+  gather : (is : List Input) (m : Model) → Holds m → (run is m).report.breached ≡ None → g (run is m) ≡ op (cond (list_any f (moments is m)) o (g m)) (gathered op o w (since_last f (moments is m)))
   gather [] m h e = sym (t.right (g m))
   gather (i ∷ is) m h e =
       let n = (observed i m).0 in
@@ -53,7 +47,7 @@ module _ {S : Type 0} (op : S → S → S) (o : S) (t : Together op o) (Holds : 
   -- from nothing
   pub gather_all : (is : List Input) (m : Model) → Holds m → g m ≡ o → (run is m).report.breached ≡ None → g (run is m) ≡ gathered op o w (since_last f (moments is m))
   gather_all is m h z e =
-      gather is m h e ∙ ap (λ s. op s (gathered op o w (since_last f (moments is m)))) (nothing (any f (moments is m)) o (g m) z) ∙ t.left (gathered op o w (since_last f (moments is m)))
+      gather is m h e ∙ ap (λ s. op s (gathered op o w (since_last f (moments is m)))) (nothing (list_any f (moments is m)) o (g m) z) ∙ t.left (gathered op o w (since_last f (moments is m)))
 
 pub inputs_of : (is : List Input) (m : Model) → map (λ x. x.input) (moments is m) ≡ is
 inputs_of [] m = refl

@@ -17,7 +17,7 @@ use Rattle.budget.specs.Nesting.{key_next, closing, entered}
 use Rattle.budget.specs.Observed.{Seen, Input, event, reference}
 use Rattle.budget.specs.Model.{Model, Outcome, with_report, with_flags, with_around, good, and_then, counting, anchored, turning, placed, scalar_anchored, scalar_sized, scalar, enter_placed, enter_sized, enter_deep, enter, closed, leave_at, alias, renewed, document_by, by_kind, by_input, observed, started}
 use Rattle.budget.specs.Laws.{Within, StaysWithin}
-use Rattle.budget.proofs.Exact.{ok_or_err, passed, within}
+use Rattle.budget.proofs.Exact.{ok_or_err, passed, not_above}
 use Rattle.budget.proofs.Marking.{none_set}
 use Rattle.budget.proofs.Sticks.{counted_well}
 
@@ -30,25 +30,25 @@ safe_then p k s t m w e =
     subst (λ o. Within o.0) (sym g.1) (t m (p m).0 (s m w g.0) (sym (ap (λ o. o.1) g.1) ∙ e))
 
 safe_events : Safe (counting count_event)
-safe_events m w e = let h = within (up m.report.events 1) m.budget.max_events (Events (up m.report.events 1)) e in search rules
+safe_events m w e = let h = not_above (up m.report.events 1) m.budget.max_events (Events (up m.report.events 1)) e in search rules
 
 safe_nodes : Safe (counting count_node)
-safe_nodes m w e = let h = within (up m.report.nodes 1) m.budget.max_nodes (Nodes (up m.report.nodes 1)) e in search rules
+safe_nodes m w e = let h = not_above (up m.report.nodes 1) m.budget.max_nodes (Nodes (up m.report.nodes 1)) e in search rules
 
 safe_bytes : (k : ℕ) → Safe (counting (count_bytes k))
-safe_bytes k m w e = let n = up m.report.total_scalar_bytes k in let h = within n m.budget.max_total_scalar_bytes (ScalarBytes n) e in search rules
+safe_bytes k m w e = let n = up m.report.total_scalar_bytes k in let h = not_above n m.budget.max_total_scalar_bytes (ScalarBytes n) e in search rules
 
 safe_aliases : Safe (counting count_alias)
-safe_aliases m w e = let h = within (up m.report.aliases 1) m.budget.max_aliases (Aliases (up m.report.aliases 1)) e in search rules
+safe_aliases m w e = let h = not_above (up m.report.aliases 1) m.budget.max_aliases (Aliases (up m.report.aliases 1)) e in search rules
 
 safe_depth : (d : ℕ) → Safe (counting (deepen d))
-safe_depth d m w e = let n = max m.report.max_depth d in let h = within n m.budget.max_depth (Depth n) e in search rules
+safe_depth d m w e = let n = max m.report.max_depth d in let h = not_above n m.budget.max_depth (Depth n) e in search rules
 
 safe_merges : Safe (counting count_merge_key)
-safe_merges m w e = let h = within (up m.report.merge_keys 1) m.budget.max_merge_keys (MergeKeys (up m.report.merge_keys 1)) e in search rules
+safe_merges m w e = let h = not_above (up m.report.merge_keys 1) m.budget.max_merge_keys (MergeKeys (up m.report.merge_keys 1)) e in search rules
 
 safe_documents : Safe (counting count_document)
-safe_documents m w e = let h = within (up m.report.documents 1) m.budget.max_documents (Documents (up m.report.documents 1)) e in search rules
+safe_documents m w e = let h = not_above (up m.report.documents 1) m.budget.max_documents (Documents (up m.report.documents 1)) e in search rules
 
 -- a number that is not new changes nothing
 same_either : (zeroth : Bool) (a : ℕ) (bs : List Bool) → cond zeroth false (not (get_or bs a false)) ≡ false → trues (cond zeroth bs (set bs a true)) ≡ trues bs
@@ -60,7 +60,7 @@ safe_number : (new : Bool) (a : ℕ) (m : Model) → is_new a m.anchors ≡ new 
     Within (cond new (counting (count_anchor (trues (defined a m.anchors))) (with_flags m (defined a m.anchors))) (good (with_report (with_flags m (defined a m.anchors)) (with_anchors m.report (trues (defined a m.anchors)))))).0
 safe_number true a m n w e =
     let k = trues (defined a m.anchors) in
-    let h = within k m.budget.max_anchors (Anchors k) e in
+    let h = not_above k m.budget.max_anchors (Anchors k) e in
     record { events = w.events; aliases = w.aliases; anchors = h; depth = w.depth; documents = w.documents; nodes = w.nodes; bytes = w.bytes; merge_keys = w.merge_keys; told = refl }
 safe_number false a m n w e =
     let same = same_either (eqb a 0) a m.anchors n in
@@ -106,12 +106,8 @@ safe_leave : (k : EventKind) (ss : List ContainerState) → Safe (leave_at k ss)
 safe_leave k [] m w e = ok_or_err SequenceUnbalanced (Err SequenceUnbalanced) refl e
 safe_leave k (s ∷ ss) m w e = safe_closed k (closing k s) (with_around m ss) (moved m ss w) e
 
-safe_turn : (turns : Bool) (m : Model) → Within m → Within (cond turns (turning Alias m) m)
-safe_turn true m w = moved m (turning Alias m).around w
-safe_turn false m w = w
-
-safe_alias : (turns : Bool) → Safe (alias turns)
-safe_alias turns = safe_then (counting count_alias) (λ _ n. good (cond turns (turning Alias n) n)) safe_aliases (λ _ n w e. safe_turn turns n w)
+safe_alias : Safe alias
+safe_alias = safe_then (counting count_alias) (λ _ n. good (turning Alias n)) safe_aliases (λ _ n w e. moved n (turning Alias n).around w)
 
 -- counts that begin anew
 safe_renewed : Safe renewed
@@ -132,7 +128,7 @@ safe_kind SequenceStart e m w t = safe_enter e m w t
 safe_kind MappingStart e m w t = safe_enter e m w t
 safe_kind SequenceEnd e m w t = safe_leave SequenceEnd m.around m w t
 safe_kind MappingEnd e m w t = safe_leave MappingEnd m.around m w t
-safe_kind Alias e m w t = safe_alias true m w t
+safe_kind Alias e m w t = safe_alias m w t
 safe_kind DocumentStart e m w t = safe_document m.policy m w t
 safe_kind DocumentEnd e m w t = w
 safe_kind StreamStart e m w t = w
@@ -140,7 +136,7 @@ safe_kind StreamEnd e m w t = w
 
 safe_input : (i : Input) → Safe (by_input i)
 safe_input (event e) m w t = safe_kind e.kind e m w t
-safe_input reference m w t = safe_alias false m w t
+safe_input reference m w t = safe_aliases m w t
 
 pub observed_within : (i : Input) (m : Model) → StaysWithin (observed i m).1 m (observed i m).0
 observed_within i m w t =

@@ -1,5 +1,4 @@
 pub mod Bounds
-pub mod Stacks
 pub mod Trues
 pub mod Chains
 pub mod Sticks

@@ -1,6 +1,7 @@
 -- The flags of the anchor numbers after an input, and how many are set.
 use Rattle.std.proofs.Common.{◌≡◌, ℕ, zero, suc, ◌<◌, Bool, true, false, cond, not, ◌&&◌, ◌||◌, eqb, List, [], ◌∷◌, length, get_or, set, replicate, Ok, sym, refl, ap, ◌∙◌, subst, arith, length-set, get_or-set_other, get_or-set_same}
 use lib.ListN.{length-replicate}
+use Rattle.std.proofs.Math.Bool.{or-false, or-true}
 use Rattle.std.proofs.lemmas.Bool.{eqb-true, eqb-false}
 use Rattle.events.specs.declared.kinds.EventKind.{EventKind}
 use Rattle.events.specs.declared.kinds.EventKind.TheVariants.{StreamStart, StreamEnd, DocumentStart, DocumentEnd, Alias, Scalar, SequenceStart, SequenceEnd, MappingStart, MappingEnd}
@@ -32,24 +33,16 @@ length_either false a bs = length-set bs a true
 length_defined : (a : ℕ) (bs : List Bool) → length (defined a bs) ≡ length bs
 length_defined a bs = length_either (eqb a 0) a bs
 
-or_true : (b : Bool) → (b || true) ≡ true
-or_true true = refl
-or_true false = refl
-
-or_none : (b : Bool) → b ≡ (b || false)
-or_none true = refl
-or_none false = refl
-
 -- the flag of a number after another was defined, which is 0 or not, and the same or not
 flag_at : (zeroth same none : Bool) (a k : ℕ) (bs : List Bool) → eqb a 0 ≡ zeroth → eqb a k ≡ same → eqb k 0 ≡ none → k < length bs → get_or (cond zeroth bs (set bs a true)) k false ≡ (get_or bs k false || (same && not none))
-flag_at true true true a k bs p q r h = or_none (get_or bs k false)
+flag_at true true true a k bs p q r h = sym (or-false (get_or bs k false))
 flag_at true true false a k bs p q r h = absurd (eqb-false k 0 r (sym (eqb-true a k q) ∙ eqb-true a 0 p))
-flag_at true false n a k bs p q r h = or_none (get_or bs k false)
+flag_at true false n a k bs p q r h = sym (or-false (get_or bs k false))
 flag_at false true true a k bs p q r h = absurd (eqb-false a 0 p (eqb-true a k q ∙ eqb-true k 0 r))
 flag_at false true false a k bs p q r h =
     let e = eqb-true a k q in
-    subst (λ j. get_or (set bs j true) k false ≡ true) (sym e) (get_or-set_same bs k true false h) ∙ sym (or_true (get_or bs k false))
-flag_at false false n a k bs p q r h = get_or-set_other bs a k true false (λ e. eqb-false a k q (sym e)) ∙ or_none (get_or bs k false)
+    subst (λ j. get_or (set bs j true) k false ≡ true) (sym e) (get_or-set_same bs k true false h) ∙ sym (or-true (get_or bs k false))
+flag_at false false n a k bs p q r h = get_or-set_other bs a k true false (λ e. eqb-false a k q (sym e)) ∙ sym (or-false (get_or bs k false))
 
 flag_defined : (a k : ℕ) (bs : List Bool) → k < length bs → get_or (defined a bs) k false ≡ (get_or bs k false || (eqb a k && not (eqb k 0)))
 flag_defined a k bs h = flag_at (eqb a 0) (eqb a k) (eqb k 0) a k bs refl refl refl h
@@ -82,7 +75,7 @@ module _ (i : Input) (m n : Model) (plain : resets m.policy i ≡ false) where
   same_marks : n.anchors ≡ m.anchors → n.report.anchors ≡ m.report.anchors → ((k : ℕ) → carries k i ≡ false) → Marks i m n
   same_marks f r c = record {
     as_long = λ l. ap length f ∙ l;
-    flag = λ k h. flag_from k false (ap (λ bs. get_or bs k false) f ∙ or_none (get_or m.anchors k false)) (c k);
+    flag = λ k h. flag_from k false (ap (λ bs. get_or bs k false) f ∙ sym (or-false (get_or m.anchors k false))) (c k);
     told = λ t. r ∙ t ∙ sym (ap trues f);
   }
 

@@ -1,22 +1,28 @@
 -- What a run has gathered since the last item at which it began anew.
-use Rattle.std.proofs.Common.{◌≡◌, ℕ, Bool, true, false, cond, ◌||◌, List, [], ◌∷◌, map, length, refl, ap, ◌∙◌, arith}
-use Rattle.budget.specs.Runs.{gathered, any, since_last, total}
-
-or_false : (a b : Bool) → (a || b) ≡ false → (a ≡ false) × (b ≡ false)
-or_false true b e = let z : ◌≡◌ {A = ℕ} 0 1 = cc in absurd (omega arith)
-or_false false b e = (refl, e)
+use Rattle.std.proofs.Common.{◌≡◌, Bool, true, false, cond, ◌||◌, List, [], ◌∷◌, map, length, refl, ap, ◌∙◌, arith}
+use Rattle.std.specs.List.{list_any}
+use Rattle.std.proofs.lemmas.Bool.{or_parts}
+use Rattle.budget.specs.Runs.{gathered, since_last, total}
 
 -- where no item begins anew, all came since
-pub since_none : {A : Type 0} (f : A → Bool) (xs : List A) → any f xs ≡ false → since_last f xs ≡ xs
+pub since_none : {A : Type 0} (f : A → Bool) (xs : List A) → list_any f xs ≡ false → since_last f xs ≡ xs
 since_none f [] e = refl
 since_none f (x ∷ xs) e =
-    let p = or_false (f x) (any f xs) e in
+    let p = or_parts (f x) (list_any f xs) e in
     ap (λ b. cond b (since_last f xs) (cond (f x) xs (x ∷ xs))) p.1 ∙ ap (λ b. cond b xs (x ∷ xs)) p.0
 
 -- what is gathered from one side of the items
 pub gathered_map : {A B S : Type 0} (op : S → S → S) (o : S) (g : A → B) (w : B → S) (xs : List A) → gathered op o (λ x. w (g x)) xs ≡ gathered op o w (map g xs)
 gathered_map op o g w [] = refl
 gathered_map op o g w (x ∷ xs) = ap (op (w (g x))) (gathered_map op o g w xs)
+
+any_map : {A B : Type 0} (g : A → B) (f : B → Bool) (xs : List A) → list_any (λ x. f (g x)) xs ≡ list_any f (map g xs)
+any_map g f [] = refl
+any_map g f (x ∷ xs) = ap (λ b. f (g x) || b) (any_map g f xs)
+
+pub gathered_any : {A : Type 0} (f : A → Bool) (xs : List A) → gathered ◌||◌ false f xs ≡ list_any f xs
+gathered_any f [] = refl
+gathered_any f (x ∷ xs) = ap (λ b. f x || b) (gathered_any f xs)
 
 map_cond : {A B : Type 0} (g : A → B) (b : Bool) (xs ys : List A) → map g (cond b xs ys) ≡ cond b (map g xs) (map g ys)
 map_cond g true xs ys = refl
@@ -25,12 +31,12 @@ map_cond g false xs ys = refl
 pub since_map : {A B : Type 0} (g : A → B) (f : B → Bool) (xs : List A) → map g (since_last (λ x. f (g x)) xs) ≡ since_last f (map g xs)
 since_map g f [] = refl
 since_map g f (x ∷ xs) =
-    map_cond g (any (λ y. f (g y)) xs) (since_last (λ y. f (g y)) xs) (cond (f (g x)) xs (x ∷ xs))
-    ∙ ap (λ b. cond b (map g (since_last (λ y. f (g y)) xs)) (map g (cond (f (g x)) xs (x ∷ xs)))) (gathered_map ◌||◌ false g f xs)
-    ∙ ap (λ ys. cond (any f (map g xs)) ys (map g (cond (f (g x)) xs (x ∷ xs)))) (since_map g f xs)
-    ∙ ap (λ ys. cond (any f (map g xs)) (since_last f (map g xs)) ys) (map_cond g (f (g x)) xs (x ∷ xs))
+    map_cond g (list_any (λ y. f (g y)) xs) (since_last (λ y. f (g y)) xs) (cond (f (g x)) xs (x ∷ xs))
+    ∙ ap (λ b. cond b (map g (since_last (λ y. f (g y)) xs)) (map g (cond (f (g x)) xs (x ∷ xs)))) (any_map g f xs)
+    ∙ ap (λ ys. cond (list_any f (map g xs)) ys (map g (cond (f (g x)) xs (x ∷ xs)))) (since_map g f xs)
+    ∙ ap (λ ys. cond (list_any f (map g xs)) (since_last f (map g xs)) ys) (map_cond g (f (g x)) xs (x ∷ xs))
 
-pub none_pass : {A : Type 0} (xs : List A) → any (λ _. false) xs ≡ false
+pub none_pass : {A : Type 0} (xs : List A) → list_any (λ _. false) xs ≡ false
 none_pass [] = refl
 none_pass (x ∷ xs) = none_pass xs
 
@@ -49,5 +55,5 @@ module _ {A S : Type 0} (op : S → S → S) (o : S) (assoc : (a b c : S) → op
 
   -- one turn: the first item begins anew or adds, and the rest goes on
   pub gather_turn : (f : A → Bool) (x : A) (xs : List A) (s t : S) → t ≡ cond (f x) o (op s (w x)) →
-      op (cond (any f xs) o t) (gathered op o w (since_last f xs)) ≡ op (cond (any f (x ∷ xs)) o s) (gathered op o w (since_last f (x ∷ xs)))
-  gather_turn f x xs s t e = turned (any f xs) (f x) (since_last f xs) xs x s t (since_none f xs) e
+      op (cond (list_any f xs) o t) (gathered op o w (since_last f xs)) ≡ op (cond (list_any f (x ∷ xs)) o s) (gathered op o w (since_last f (x ∷ xs)))
+  gather_turn f x xs s t e = turned (list_any f xs) (f x) (since_last f xs) xs x s t (since_none f xs) e

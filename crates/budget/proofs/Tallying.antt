@@ -1,5 +1,6 @@
 -- With no breach, each count is what was observed since the counts began anew.
 use Rattle.std.proofs.Common.{◌≡◌, ℕ, ◌+◌, ◌<◌, max, false, cond, ◌||◌, List, [], ◌∷◌, length, get_or, None, Ok, sym, refl, ap, ◌∙◌, subst}
+use Rattle.std.specs.List.{list_any}
 use lib.ListN.{length-replicate}
 use Rattle.budget.specs.declared.limits.AliasLimits.{AliasLimits}
 use Rattle.budget.specs.declared.limits.Budget.{Budget}
@@ -9,13 +10,13 @@ use Rattle.budget.specs.Counts.{with_anchors}
 use Rattle.budget.specs.Flags.{trues}
 use Rattle.budget.specs.Observed.{Input}
 use Rattle.budget.specs.Model.{Model, observed, started}
-use Rattle.budget.specs.Runs.{run, Moment, moments, gathered, any, since_last, total}
+use Rattle.budget.specs.Runs.{run, Moment, moments, gathered, since_last, total}
 use Rattle.budget.specs.Tallies.{nodes_of, aliases_of, bytes_of, documents_of, resets, depth_of, merge_keys_of, carries, number_below}
 use Rattle.budget.specs.Laws.{Adds, since, moments_since, CountsWhatIsObserved, CountsDistinctAnchors, EndsWithTheReport}
 use Rattle.budget.proofs.Bounds.{Bounds}
 use Rattle.budget.proofs.Sticks.{clean_before, clean_answer}
 use Rattle.budget.proofs.Adding.{observed_adds}
-use Rattle.budget.proofs.Since.{gathered_map, since_map, since_none, none_pass, total_ones}
+use Rattle.budget.proofs.Since.{gathered_any, gathered_map, since_map, since_none, none_pass, total_ones}
 use Rattle.budget.proofs.Gathering.{Together, sums, maxima, tests, at, gather_all, inputs_of}
 use Rattle.budget.proofs.Marking.{observed_marks, none_set, none_at, number_set, number_same}
 
@@ -70,10 +71,10 @@ module _ (a : AliasLimits) (p : EnforcingPolicy) where
     sum_since g w law z is e =
         since_reset ◌+◌ 0 sums g (λ x. w x.input) (λ i n f r. law i n (observed i n).0 (observed_adds a i n f.bounds r)) is m h z e ∙ inputs_since ◌+◌ 0 w is m
 
-    flag_since : (k : ℕ) → k < 1024 → get_or m.anchors k false ≡ false → (is : List Input) → (run is m).report.breached ≡ None → get_or (run is m).anchors k false ≡ any (carries k) (since p is)
+    flag_since : (k : ℕ) → k < 1024 → get_or m.anchors k false ≡ false → (is : List Input) → (run is m).report.breached ≡ None → get_or (run is m).anchors k false ≡ list_any (carries k) (since p is)
     flag_since k l z is e =
         since_reset ◌||◌ false tests (λ n. get_or n.anchors k false) (λ x. carries k x.input)
-        (λ i n f r. (observed_marks a i n f.bounds r).flag k (subst (λ s. k < s) (sym f.as_long) l)) is m h z e ∙ inputs_since ◌||◌ false (carries k) is m
+        (λ i n f r. (observed_marks a i n f.bounds r).flag k (subst (λ s. k < s) (sym f.as_long) l)) is m h z e ∙ inputs_since ◌||◌ false (carries k) is m ∙ gathered_any (carries k) (since p is)
 
 module _ (a : AliasLimits) (b : Budget) (p : EnforcingPolicy) (k : MergeKeyPolicy) (w : Bounds b a) where
   fit_started : Fit a p (started b p k)
@@ -98,7 +99,7 @@ module _ (a : AliasLimits) (b : Budget) (p : EnforcingPolicy) (k : MergeKeyPolic
       let m = started b p k in
       let f = fit_run a p is m fit_started e in
       f.told ∙ number_set (run is m).anchors ∙ ap (λ n. number_below n (λ j. get_or (run is m).anchors j false)) f.as_long
-      ∙ number_same 1024 (λ j. get_or (run is m).anchors j false) (λ j. any (carries j) (since p is)) (λ j l. flag_since a p m fit_started j l (none_at 1024 j) is e)
+      ∙ number_same 1024 (λ j. get_or (run is m).anchors j false) (λ j. list_any (carries j) (since p is)) (λ j l. flag_since a p m fit_started j l (none_at 1024 j) is e)
 
   pub ends_with_the_report : EndsWithTheReport (started b p k)
   ends_with_the_report is e = ap (with_anchors (run is (started b p k)).report) (sym (fit_run a p is (started b p k) fit_started e).told)

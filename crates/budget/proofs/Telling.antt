@@ -12,7 +12,8 @@ use Rattle.budget.specs.declared.policy.EnforcingPolicy.{EnforcingPolicy}
 use Rattle.budget.specs.declared.policy.MergeKeyPolicy.{MergeKeyPolicy}
 use Rattle.budget.specs.declared.policy.EnforcingPolicy.TheVariants.{AllContent, PerDocument}
 use Rattle.budget.specs.declared.containers.ContainerState.{ContainerState}
-use Rattle.budget.specs.Counts.{Answer, up, held, with_breached, count_event, count_node, count_bytes, count_alias, count_document, count_merge_key, count_anchor, deepen, judged, lopsided}
+use Rattle.budget.specs.Counts.{Answer, up, with_breached, count_event, count_node, count_bytes, count_alias, count_document, count_merge_key, count_anchor, deepen, judged, lopsided}
+use Rattle.budget.specs.Limits.{within}
 use Rattle.budget.specs.Flags.{trues, is_new, defined}
 use Rattle.budget.specs.Merging.{is_merge}
 use Rattle.budget.specs.Nesting.{key_next, closing, entered}
@@ -45,8 +46,8 @@ tells_test true m x h p = tells_err m x (record { counts = h; passed = p refl })
 tells_test false m x h p = tells_good m
 
 -- a count against its limit
-tells_held : (limit n : ℕ) (m : Model) (x : BudgetBreach) → breach_counts x ≡ report_counts x m.report → (limit < n → Passed x m.budget) → Tells (m, held n limit x)
-tells_held limit n m x h p = tells_test (ltb limit n) m x h (λ t. p (ltb-true limit n t))
+tells_within : (limit n : ℕ) (m : Model) (x : BudgetBreach) → breach_counts x ≡ report_counts x m.report → (limit < n → Passed x m.budget) → Tells (m, within n limit x)
+tells_within limit n m x h p = tells_test (ltb limit n) m x h (λ t. p (ltb-true limit n t))
 
 onward : (r : Answer) (p q : Outcome) → Tells p → Tells q → Tells (on_good r q p)
 onward (Ok u) p q h k = k
@@ -56,28 +57,28 @@ tells_then : (p : Outcome) (k : Model → Outcome) → Tells p → ((m : Model) 
 tells_then p k h l = onward p.1 p (k p.0) h (l p.0)
 
 tells_events : (m : Model) → Tells (counting count_event m)
-tells_events m = let n = up m.report.events 1 in tells_held m.budget.max_events n (counting count_event m).0 (Events n) refl (λ p. p)
+tells_events m = let n = up m.report.events 1 in tells_within m.budget.max_events n (counting count_event m).0 (Events n) refl (λ p. p)
 
 tells_nodes : (m : Model) → Tells (counting count_node m)
-tells_nodes m = let n = up m.report.nodes 1 in tells_held m.budget.max_nodes n (counting count_node m).0 (Nodes n) refl (λ p. p)
+tells_nodes m = let n = up m.report.nodes 1 in tells_within m.budget.max_nodes n (counting count_node m).0 (Nodes n) refl (λ p. p)
 
 tells_bytes : (k : ℕ) (m : Model) → Tells (counting (count_bytes k) m)
-tells_bytes k m = let n = up m.report.total_scalar_bytes k in tells_held m.budget.max_total_scalar_bytes n (counting (count_bytes k) m).0 (ScalarBytes n) refl (λ p. p)
+tells_bytes k m = let n = up m.report.total_scalar_bytes k in tells_within m.budget.max_total_scalar_bytes n (counting (count_bytes k) m).0 (ScalarBytes n) refl (λ p. p)
 
 tells_aliases : (m : Model) → Tells (counting count_alias m)
-tells_aliases m = let n = up m.report.aliases 1 in tells_held m.budget.max_aliases n (counting count_alias m).0 (Aliases n) refl (λ p. p)
+tells_aliases m = let n = up m.report.aliases 1 in tells_within m.budget.max_aliases n (counting count_alias m).0 (Aliases n) refl (λ p. p)
 
 tells_depth : (d : ℕ) (m : Model) → Tells (counting (deepen d) m)
-tells_depth d m = let n = max m.report.max_depth d in tells_held m.budget.max_depth n (counting (deepen d) m).0 (Depth n) refl (λ p. p)
+tells_depth d m = let n = max m.report.max_depth d in tells_within m.budget.max_depth n (counting (deepen d) m).0 (Depth n) refl (λ p. p)
 
 tells_merges : (m : Model) → Tells (counting count_merge_key m)
-tells_merges m = let n = up m.report.merge_keys 1 in tells_held m.budget.max_merge_keys n (counting count_merge_key m).0 (MergeKeys n) refl (λ p. p)
+tells_merges m = let n = up m.report.merge_keys 1 in tells_within m.budget.max_merge_keys n (counting count_merge_key m).0 (MergeKeys n) refl (λ p. p)
 
 tells_documents : (m : Model) → Tells (counting count_document m)
-tells_documents m = let n = up m.report.documents 1 in tells_held m.budget.max_documents n (counting count_document m).0 (Documents n) refl (λ p. p)
+tells_documents m = let n = up m.report.documents 1 in tells_within m.budget.max_documents n (counting count_document m).0 (Documents n) refl (λ p. p)
 
 tells_anchor : (n : ℕ) (m : Model) → Tells (counting (count_anchor n) m)
-tells_anchor n m = tells_held m.budget.max_anchors n (counting (count_anchor n) m).0 (Anchors n) refl (λ p. p)
+tells_anchor n m = tells_within m.budget.max_anchors n (counting (count_anchor n) m).0 (Anchors n) refl (λ p. p)
 
 none_or_many : (x y : Bool) (anchors limit aliases : ℕ) → eqb anchors 0 ≡ x → ltb limit aliases ≡ y → (x || y) ≡ true → (anchors ≡ 0) ⊎ (limit < aliases)
 none_or_many true y anchors limit aliases p q e = inl (eqb-true anchors 0 p)
@@ -128,8 +129,8 @@ tells_leave : (k : EventKind) (ss : List ContainerState) (m : Model) → Tells (
 tells_leave k [] m = tells_err m SequenceUnbalanced (record { counts = refl; passed = tt })
 tells_leave k (s ∷ ss) m = tells_closed k (closing k s) (with_around m ss)
 
-tells_alias : (turns : Bool) (m : Model) → Tells (alias turns m)
-tells_alias turns m = tells_then (counting count_alias m) (λ n. good (cond turns (turning Alias n) n)) (tells_aliases m) (λ n. tells_good (cond turns (turning Alias n) n))
+tells_alias : (m : Model) → Tells (alias m)
+tells_alias m = tells_then (counting count_alias m) (λ n. good (turning Alias n)) (tells_aliases m) (λ n. tells_good (turning Alias n))
 
 tells_document : (p : EnforcingPolicy) (m : Model) → Tells (document_by p m)
 tells_document AllContent m = tells_documents m
@@ -141,7 +142,7 @@ tells_kind SequenceStart e m = tells_enter e m
 tells_kind MappingStart e m = tells_enter e m
 tells_kind SequenceEnd e m = tells_leave SequenceEnd m.around m
 tells_kind MappingEnd e m = tells_leave MappingEnd m.around m
-tells_kind Alias e m = tells_alias true m
+tells_kind Alias e m = tells_alias m
 tells_kind DocumentStart e m = tells_document m.policy m
 tells_kind DocumentEnd e m = tells_good m
 tells_kind StreamStart e m = tells_good m
@@ -149,7 +150,7 @@ tells_kind StreamEnd e m = tells_good m
 
 tells_input : (i : Input) (m : Model) → Tells (by_input i m)
 tells_input (event e) m = tells_kind e.kind e m
-tells_input reference m = tells_alias false m
+tells_input reference m = tells_aliases m
 
 tells_counted : (i : Input) (m : Model) → Tells (counted i m)
 tells_counted i m = tells_then (counting count_event m) (by_input i) (tells_events m) (tells_input i)

@@ -1,5 +1,6 @@
 -- The laws of the enforcer, over whole runs.
 use Rattle.std.specs.Prelude.{◌≡◌, ℕ, zero, suc, ◌+◌, ◌*◌, ◌<◌, ◌≤◌, max, true, cond, not, ◌⊎◌, List, [], ◌∷◌, ◌++◌, map, length, Some, None, Ok, Err}
+use Rattle.std.specs.List.{list_any}
 use Rattle.events.specs.declared.kinds.EventKind.{EventKind}
 use Rattle.events.specs.declared.kinds.EventKind.TheVariants.{Alias, Scalar}
 use Rattle.events.specs.declared.kinds.Container.{Container}
@@ -15,7 +16,7 @@ use Rattle.budget.specs.Counts.{Answer}
 use Rattle.budget.specs.Flags.{trues}
 use Rattle.budget.specs.Model.{Model, reported}
 use Rattle.budget.specs.Observed.{Seen, Input, event, reference}
-use Rattle.budget.specs.Runs.{run, answers, Moment, moments, any, since_last, total, highest}
+use Rattle.budget.specs.Runs.{run, answers, Moment, moments, since_last, total, highest}
 use Rattle.budget.specs.Tallies.{nodes_of, aliases_of, bytes_of, documents_of, resets, depth_of, merge_keys_of, carries, number_below}
 
 -- 1: a breach once answered is answered for ever
@@ -69,7 +70,7 @@ CountsWhatIsObserved m = (is : List Input) → (run is m).report.breached ≡ No
 
 -- 3: the anchors counted are the distinct numbers that nodes carried
 abbrev pub CountsDistinctAnchors : Model → Type 0
-CountsDistinctAnchors m = (is : List Input) → (run is m).report.breached ≡ None → (run is m).report.anchors ≡ number_below 1024 (λ n. any (carries n) (since m.policy is))
+CountsDistinctAnchors m = (is : List Input) → (run is m).report.breached ≡ None → (run is m).report.anchors ≡ number_below 1024 (λ n. list_any (carries n) (since m.policy is))
 
 -- without a breach the report at the end is the report so far
 abbrev pub EndsWithTheReport : Model → Type 0

@@ -2,12 +2,10 @@ pub mod Limits
 pub mod Counts
 pub mod Flags
 pub mod Nesting
-pub mod Containers
 pub mod Observed
 pub mod Seeing
 pub mod Merging
 pub mod Model
-pub mod View
 pub mod Runs
 pub mod Tallies
 pub mod Laws

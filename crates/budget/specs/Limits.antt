@@ -1,7 +1,10 @@
 -- The limits: their places, what they may be at most, and what they are where nothing else is wanted.
-use Rattle.std.specs.Prelude.{ℕ, ◌^◌, Bool, true, false, cond, List, [], ◌∷◌, Some, None, Ok, Err, Option, Result, nat_lt}
+use Rattle.std.specs.Prelude.{ℕ, ◌^◌, Bool, true, cond, List, [], ◌∷◌, Some, None, Ok, Err, Option, Result, is_none, nat_lt}
+use Rattle.std.specs.List.{find}
+use Rattle.std.specs.Option.{unwrap_or}
 use Rattle.budget.specs.declared.limits.Budget.{Budget}
 use Rattle.budget.specs.declared.limits.AliasLimits.{AliasLimits}
+use Rattle.budget.specs.declared.limits.Limits.{Limits}
 use Rattle.budget.specs.declared.limits.LimitField.{LimitField}
 use Rattle.budget.specs.declared.limits.LimitField.TheVariants.{MaxReaderInputBytes, MaxEvents, MaxAliases, MaxAnchors, MaxDepth, MaxInclusionDepth, MaxDocuments, MaxNodes, MaxTotalScalarBytes, MaxMergeKeys, AliasAnchorMinAliases, AliasAnchorRatioMultiplier, MaxTotalReplayedEvents, MaxReplayStackDepth, MaxAliasExpansionsPerAnchor}
 
@@ -43,32 +46,38 @@ standard_budget = record {
 abbrev pub standard_alias_limits : AliasLimits
 standard_alias_limits = record { max_total_replayed_events = 1000000; max_replay_stack_depth = 64; max_alias_expansions_per_anchor = 2 ^ 30 }
 
+abbrev pub standard_limits : Limits
+standard_limits = record { budget = standard_budget; alias_limits = standard_alias_limits }
+
+-- a count above its limit is the error
+abbrev pub within : {E : Type 0} → ℕ → ℕ → E → Result (Unit {0}) E
+within n limit e = cond (nat_lt limit n) (Err e) (Ok tt)
+
 -- an absent limit is never too large
 abbrev pub or_absent : Option ℕ → ℕ
-or_absent None = 0
-or_absent (Some n) = n
+or_absent o = unwrap_or o 0
 
 -- the limits in the order of their places
 abbrev pub fields : List LimitField
 fields = MaxReaderInputBytes ∷ MaxEvents ∷ MaxAliases ∷ MaxAnchors ∷ MaxDepth ∷ MaxInclusionDepth ∷ MaxDocuments ∷ MaxNodes ∷ MaxTotalScalarBytes ∷ MaxMergeKeys ∷ AliasAnchorMinAliases ∷ AliasAnchorRatioMultiplier ∷ MaxTotalReplayedEvents ∷ MaxReplayStackDepth ∷ MaxAliasExpansionsPerAnchor ∷ []
 
 -- the number given for a limit
-abbrev pub given_for : LimitField → Budget → AliasLimits → ℕ
-given_for MaxReaderInputBytes b a = or_absent b.max_reader_input_bytes
-given_for MaxEvents b a = b.max_events
-given_for MaxAliases b a = b.max_aliases
-given_for MaxAnchors b a = b.max_anchors
-given_for MaxDepth b a = b.max_depth
-given_for MaxInclusionDepth b a = b.max_inclusion_depth
-given_for MaxDocuments b a = b.max_documents
-given_for MaxNodes b a = b.max_nodes
-given_for MaxTotalScalarBytes b a = b.max_total_scalar_bytes
-given_for MaxMergeKeys b a = b.max_merge_keys
-given_for AliasAnchorMinAliases b a = b.alias_anchor_min_aliases
-given_for AliasAnchorRatioMultiplier b a = b.alias_anchor_ratio_multiplier
-given_for MaxTotalReplayedEvents b a = a.max_total_replayed_events
-given_for MaxReplayStackDepth b a = a.max_replay_stack_depth
-given_for MaxAliasExpansionsPerAnchor b a = a.max_alias_expansions_per_anchor
+abbrev pub given_for : LimitField → Limits → ℕ
+given_for MaxReaderInputBytes l = or_absent l.budget.max_reader_input_bytes
+given_for MaxEvents l = l.budget.max_events
+given_for MaxAliases l = l.budget.max_aliases
+given_for MaxAnchors l = l.budget.max_anchors
+given_for MaxDepth l = l.budget.max_depth
+given_for MaxInclusionDepth l = l.budget.max_inclusion_depth
+given_for MaxDocuments l = l.budget.max_documents
+given_for MaxNodes l = l.budget.max_nodes
+given_for MaxTotalScalarBytes l = l.budget.max_total_scalar_bytes
+given_for MaxMergeKeys l = l.budget.max_merge_keys
+given_for AliasAnchorMinAliases l = l.budget.alias_anchor_min_aliases
+given_for AliasAnchorRatioMultiplier l = l.budget.alias_anchor_ratio_multiplier
+given_for MaxTotalReplayedEvents l = l.alias_limits.max_total_replayed_events
+given_for MaxReplayStackDepth l = l.alias_limits.max_replay_stack_depth
+given_for MaxAliasExpansionsPerAnchor l = l.alias_limits.max_alias_expansions_per_anchor
 
 -- what a limit may be at most
 abbrev pub bound_of : LimitField → ℕ
@@ -88,32 +97,23 @@ bound_of MaxTotalReplayedEvents = 2 ^ 30
 bound_of MaxReplayStackDepth = 2 ^ 30
 bound_of MaxAliasExpansionsPerAnchor = 2 ^ 30
 
-abbrev pub too_large : Budget → AliasLimits → LimitField → Bool
-too_large b a f = nat_lt (bound_of f) (given_for f b a)
+abbrev pub too_large : Limits → LimitField → Bool
+too_large l f = nat_lt (bound_of f) (given_for f l)
 
--- the first item at which a test passes
-unfoldable pub first_of : {A : Type 0} → (A → Bool) → List A → Option A
-first_of t [] = None
-first_of t (x ∷ xs) = cond (t x) (Some x) (first_of t xs)
-
-abbrev pub first_too_large : Budget → AliasLimits → Option LimitField
-first_too_large b a = first_of (too_large b a) fields
-
-abbrev pub is_none : {A : Type 0} → Option A → Bool
-is_none None = true
-is_none (Some x) = false
+abbrev pub first_too_large : Limits → Option LimitField
+first_too_large l = find (too_large l) fields
 
 -- no limit is above its bound
-abbrev pub allowed : Budget → AliasLimits → Bool
-allowed b a = is_none (first_too_large b a)
+abbrev pub allowed : Limits → Bool
+allowed l = is_none (first_too_large l)
 
 -- what the check answers: the limits that it was given, or the first that is too large
-abbrev pub judgement : Option LimitField → Budget → AliasLimits → Result (Budget × AliasLimits) LimitField
-judgement None b a = Ok (b, a)
-judgement (Some f) b a = Err f
+abbrev pub judgement : Option LimitField → Limits → Result Limits LimitField
+judgement None l = Ok l
+judgement (Some f) l = Err f
 
-abbrev pub verdict : Budget → AliasLimits → Result (Budget × AliasLimits) LimitField
-verdict b a = judgement (first_too_large b a) b a
+abbrev pub verdict : Limits → Result Limits LimitField
+verdict l = judgement (first_too_large l) l
 
 -- a result with another reading of what is good
 abbrev pub on_ok : {A B E : Type 0} → (A → B) → Result A E → Result B E

@@ -30,13 +30,13 @@ abbrev pub Outcome : Type 0
 Outcome = Model × Answer
 
 abbrev pub with_report : Model → BudgetReport → Model
-with_report m r = record { budget = m.budget; policy = m.policy; merging = m.merging; report = r; around = m.around; anchors = m.anchors }
+with_report m r = record m { report = r }
 
 abbrev pub with_around : Model → List ContainerState → Model
-with_around m s = record { budget = m.budget; policy = m.policy; merging = m.merging; report = m.report; around = s; anchors = m.anchors }
+with_around m s = record m { around = s }
 
 abbrev pub with_flags : Model → List Bool → Model
-with_flags m f = record { budget = m.budget; policy = m.policy; merging = m.merging; report = m.report; around = m.around; anchors = f }
+with_flags m f = record m { anchors = f }
 
 -- no number is defined
 abbrev pub no_anchors : List Bool
@@ -115,9 +115,9 @@ leave_at k (s ∷ ss) m = closed k (closing k s) (with_around m ss)
 abbrev pub leave : EventKind → Model → Outcome
 leave k m = leave_at k m.around m
 
--- an alias; in a mapping it is a key or a value if it stands there itself
-abbrev pub alias : Bool → Model → Outcome
-alias turns m = and_then (counting count_alias m) (λ n. good (cond turns (turning Alias n) n))
+-- an alias that stands there itself; in a mapping it is a key or a value
+abbrev pub alias : Model → Outcome
+alias m = and_then (counting count_alias m) (λ n. good (turning Alias n))
 
 -- a document start: the documents; or, each on its own, the ratio of the last one, and the counts begin anew
 
@@ -137,7 +137,7 @@ by_kind MappingStart e m = enter e m
 by_kind SequenceStart e m = enter e m
 by_kind MappingEnd e m = leave MappingEnd m
 by_kind SequenceEnd e m = leave SequenceEnd m
-by_kind Alias e m = alias true m
+by_kind Alias e m = alias m
 by_kind DocumentStart e m = document m
 by_kind DocumentEnd e m = good m
 by_kind StreamStart e m = good m
@@ -145,7 +145,7 @@ by_kind StreamEnd e m = good m
 
 abbrev pub by_input : Input → Model → Outcome
 by_input (event e) m = by_kind e.kind e m
-by_input reference m = alias false m
+by_input reference m = counting count_alias m
 
 -- every input counts as an event first
 abbrev pub counted : Input → Model → Outcome

@@ -1,5 +1,5 @@
 -- Key and value alternate in a mapping.
-use Rattle.std.specs.Prelude.{ℕ, zero, suc, Bool, true, false, not, List, [], ◌∷◌, Some, None, Option, slice_index_or}
+use Rattle.std.specs.Prelude.{Bool, true, false, not, List, [], ◌∷◌, Some, None, Option}
 use Rattle.budget.specs.declared.containers.ContainerState.{ContainerState}
 use Rattle.budget.specs.declared.containers.ContainerState.TheVariants.{Sequence, Mapping}
 use Rattle.events.specs.declared.kinds.EventKind.{EventKind}
@@ -40,11 +40,6 @@ abbrev pub is_value : EventKind → ContainerState → Bool
 is_value k (Sequence f) = false
 is_value k (Mapping e f) = starts k e
 
--- the first n of a table, the last of them first
-abbrev pub stack : List ContainerState → ℕ → List ContainerState
-stack xs zero = []
-stack xs (suc n) = slice_index_or xs n (Sequence false) ∷ stack xs n
-
 abbrev pub turn_top : EventKind → List ContainerState → List ContainerState
 turn_top k [] = []
 turn_top k (s ∷ ss) = turned k s ∷ ss
@@ -52,14 +47,6 @@ turn_top k (s ∷ ss) = turned k s ∷ ss
 abbrev pub top_is_value : EventKind → List ContainerState → Bool
 top_is_value k [] = false
 top_is_value k (s ∷ ss) = is_value k s
-
-abbrev pub head_of : List ContainerState → Option ContainerState
-head_of [] = None
-head_of (s ∷ ss) = Some s
-
-abbrev pub tail_of : List ContainerState → List ContainerState
-tail_of [] = []
-tail_of (s ∷ ss) = ss
 
 abbrev pub awaits_key : ContainerState → Bool
 awaits_key (Sequence f) = false

@@ -1,5 +1,6 @@
 -- Runs: what is observed one after the other, and what of it came since the counts last began anew.
-use Rattle.std.specs.Prelude.{ℕ, ◌+◌, max, Bool, false, cond, ◌||◌, List, [], ◌∷◌}
+use Rattle.std.specs.Prelude.{ℕ, ◌+◌, max, Bool, cond, List, [], ◌∷◌}
+use Rattle.std.specs.List.{list_any}
 use Rattle.budget.specs.Counts.{Answer}
 use Rattle.budget.specs.Model.{Model, observed}
 use Rattle.budget.specs.Observed.{Input}
@@ -36,11 +37,7 @@ total w xs = gathered ◌+◌ 0 w xs
 abbrev pub highest : {A : Type 0} → (A → ℕ) → List A → ℕ
 highest w xs = gathered max 0 w xs
 
--- whether a test passes at some item
-abbrev pub any : {A : Type 0} → (A → Bool) → List A → Bool
-any f xs = gathered ◌||◌ false f xs
-
 -- what comes after the last item at which a test passes; all, where there is none
 abbrev pub since_last : {A : Type 0} → (A → Bool) → List A → List A
 since_last f [] = []
-since_last f (x ∷ xs) = cond (any f xs) (since_last f xs) (cond (f x) xs (x ∷ xs))
+since_last f (x ∷ xs) = cond (list_any f xs) (since_last f xs) (cond (f x) xs (x ∷ xs))

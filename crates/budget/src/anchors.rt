@@ -7,6 +7,7 @@ use crate::observed::AnchorNumber;
 /// A flag for each anchor number, and how many are set.
 #[derive(Drop)]
 pub struct DefinedAnchors {
+    // A fixed table, read by number: nothing is allocated.
     flags: [bool; 1024],
     count: u32,
     ghost counted: { count ≡ trues flags },
@@ -34,11 +35,8 @@ impl DefinedAnchors {
         ensures state { self.new.flags ≡ defined anchor.number self.old.flags }
         ensures answer { result ≡ is_new anchor.number self.old.flags }
     {
-        if anchor.number == 0 {
-            return false;
-        }
         let place = anchor.number as usize;
-        if self.flags[place] {
+        if place == 0 || self.flags[place] {
             return false;
         }
         self.flags[place] = true;

@@ -1,7 +1,9 @@
 //! What the enforcer answers: breaches, and the report of its counts.
+use std::error::Error;
+use std::fmt;
 
 /// The limit that was passed, with the counts at that moment.
-#[derive(Clone, Copy)]
+#[derive(Clone, Copy, Debug, PartialEq, Eq)]
 pub enum BudgetBreach {
     /// More events than `max_events`.
     Events { events: u32 },
@@ -25,8 +27,32 @@ pub enum BudgetBreach {
     SequenceUnbalanced,
 }
 
+impl fmt::Display for BudgetBreach {
+    fn fmt<W: fmt::Write>(&self, f: &mut fmt::Formatter<W>) -> fmt::Result {
+        match self {
+            BudgetBreach::Events { events } => {
+                write!(f, "{events} events are more than max_events")
+            }
+            BudgetBreach::Aliases { aliases } => {
+                write!(f, "{aliases} aliases are more than max_aliases")
+            }
+            BudgetBreach::Anchors { anchors } => {
+                write!(f, "{anchors} anchors are more than max_anchors")
+            }
+            BudgetBreach::Depth { depth } => write!(f, "depth {depth} is above max_depth"),
+            BudgetBreach::ScalarBytes { total_scalar_bytes } => write!(
+                f,
+                "{total_scalar_bytes} bytes are more than max_total_scalar_bytes"
+            ),
+            _ => f.write_str("a limit of the budget is passed"),
+        }
+    }
+}
+
+impl Error for BudgetBreach {}
+
 /// The first breach, if there was one, and the counts. A count stops at the largest number of 32 bits.
-#[derive(Clone, Copy)]
+#[derive(Clone, Copy, Debug, PartialEq, Eq)]
 pub struct BudgetReport {
     /// The first breach.
     pub breached: Option<BudgetBreach>,

@@ -1,13 +1,16 @@
 //! The limits of a book, and the check that none of them is too large.
 ghost use Rattle.std.specs.Prelude.{◌≡◌};
-ghost use Rattle.budget.specs.Limits.{field_number, standard_budget, standard_alias_limits};
+ghost use Rattle.budget.specs.Limits.{field_number, standard_alias_limits, standard_budget, standard_limits};
+ghost use Rattle.budget.specs.Limits.{within as within_limit};
 
 mod checking;
 
-pub use checking::{CheckedLimits, check_limits};
+pub use checking::CheckedLimits;
+use std::error::Error;
+use std::fmt;
 
 /// How much may be observed.
-#[derive(Clone, Copy)]
+#[derive(Clone, Copy, Debug, PartialEq, Eq)]
 pub struct Budget {
     /// The bytes that may be read for inserts; no limit if absent.
     pub max_reader_input_bytes: Option<u32>,
@@ -30,15 +33,22 @@ pub struct Budget {
 }
 
 /// How much may be replayed for aliases.
-#[derive(Clone, Copy)]
+#[derive(Clone, Copy, Debug, PartialEq, Eq)]
 pub struct AliasLimits {
     pub max_total_replayed_events: u32,
     pub max_replay_stack_depth: u32,
     pub max_alias_expansions_per_anchor: u32,
 }
 
+/// The limits of a book, not checked.
+#[derive(Clone, Copy, Debug, PartialEq, Eq)]
+pub struct Limits {
+    pub budget: Budget,
+    pub alias_limits: AliasLimits,
+}
+
 /// The limits that are numbers, by name.
-#[derive(Clone, Copy)]
+#[derive(Clone, Copy, Debug, PartialEq, Eq)]
 pub enum LimitField {
     MaxReaderInputBytes,
     MaxEvents,
@@ -57,20 +67,29 @@ pub enum LimitField {
     MaxAliasExpansionsPerAnchor,
 }
 
-impl LimitField {
-    /// The place of the limit, from 0: the budget's fields, and then those of the alias limits.
-    pub fn number(self) -> u32
-        ensures is_the_place_of_the_field { result ≡ field_number self }
-    {
-        self as u32
+/// The place of the limit, from 0: the budget's fields, and then those of the alias limits.
+impl From<LimitField> for u32 {
+    ghost from_gives = { λ field place. place ≡ field_number field };
+
+    fn from(field: LimitField) -> u32 {
+        field as u32
     }
 }
 
-impl Budget {
+impl fmt::Display for LimitField {
+    fn fmt<W: fmt::Write>(&self, f: &mut fmt::Formatter<W>) -> fmt::Result {
+        let number = u32::from(*self);
+        write!(f, "limit {number} is too large")
+    }
+}
+
+impl Error for LimitField {}
+
+impl Default for Budget {
+    ghost is_default = { λ b. b ≡ standard_budget };
+
     /// The limits that hold where nothing else is wanted.
-    pub fn standard() -> Budget
-        ensures is_the_standard_budget { result ≡ standard_budget }
-    {
+    fn default() -> Budget {
         Budget {
             max_reader_input_bytes: Some(268_435_456),
             max_events: 1_000_000,
@@ -89,15 +108,37 @@ impl Budget {
     }
 }
 
-impl AliasLimits {
+impl Default for AliasLimits {
+    ghost is_default = { λ a. a ≡ standard_alias_limits };
+
     /// The limits that hold where nothing else is wanted.
-    pub fn standard() -> AliasLimits
-        ensures are_the_standard_alias_limits { result ≡ standard_alias_limits }
-    {
+    fn default() -> AliasLimits {
         AliasLimits {
             max_total_replayed_events: 1_000_000,
             max_replay_stack_depth: 64,
             max_alias_expansions_per_anchor: 1 << 30,
         }
     }
+}
+
+impl Default for Limits {
+    ghost is_default = { λ l. l ≡ standard_limits };
+
+    /// The limits that hold where nothing else is wanted.
+    fn default() -> Limits {
+        Limits {
+            budget: Budget::default(),
+            alias_limits: AliasLimits::default(),
+        }
+    }
+}
+
+/// A count above its limit is the error.
+pub fn within<E: Drop>(count: u32, limit: u32, error: E) -> Result<(), E>
+    ensures is_the_error_above_the_limit { result ≡ within_limit count limit error }
+{
+    if count > limit {
+        return Err(error);
+    }
+    Ok(())
 }

@@ -5,7 +5,7 @@ ghost use Rattle.std.specs.Option.{option_map};
 use events::kinds::{EventKind, ScalarStyle};
 
 /// The number of an anchor, at most 1,023; 0 stands for no anchor.
-#[derive(Clone, Copy)]
+#[derive(Clone, Copy, Debug, PartialEq, Eq)]
 pub struct AnchorNumber {
     pub(crate) number: u32,
     ghost small: { number ≤ 1023 },
@@ -33,7 +33,7 @@ impl AnchorNumber {
 }
 
 /// An event: its kind, its anchor number, the bytes of its value and its tag, and its style. A tag of no bytes is no tag.
-#[derive(Clone, Copy)]
+#[derive(Clone, Copy, Debug, PartialEq, Eq)]
 pub struct ObservedEvent<'a> {
     pub kind: EventKind,
     pub anchor: AnchorNumber,

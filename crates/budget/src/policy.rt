@@ -1,7 +1,7 @@
 //! What is counted together, and what is done with merge keys.
 
 /// What the counts are taken over.
-#[derive(Clone, Copy)]
+#[derive(Clone, Copy, Debug, PartialEq, Eq)]
 pub enum EnforcingPolicy {
     /// All content is counted together.
     AllContent,
@@ -10,7 +10,7 @@ pub enum EnforcingPolicy {
 }
 
 /// What is done with merge keys. They are counted only where they are merged.
-#[derive(Clone, Copy)]
+#[derive(Clone, Copy, Debug, PartialEq, Eq)]
 pub enum MergeKeyPolicy {
     /// A merge key puts the entries of another mapping in its place.
     Merge,

@@ -24,19 +24,22 @@ pub fn breach_text(heap: Global, breach: BudgetBreach) -> Result<String, AllocEr
 
 /// The breach of a report, and its counts.
 pub fn report_text(heap: Global, report: BudgetReport) -> Result<String, AllocError> {
-    let breached = match report.breached {
+    let BudgetReport {
+        breached,
+        events,
+        aliases,
+        anchors,
+        documents,
+        nodes,
+        max_depth,
+        total_scalar_bytes,
+        merge_keys,
+    } = report;
+    let breached = match breached {
         Some(breach) => breach_text(heap, breach)?,
         None => String::from_str(heap, "none")?,
     };
-    let events = report.events;
-    let aliases = report.aliases;
-    let anchors = report.anchors;
-    let documents = report.documents;
-    let nodes = report.nodes;
-    let depth = report.max_depth;
-    let bytes = report.total_scalar_bytes;
-    let merge_keys = report.merge_keys;
     format!(in heap;
-        "{breached} | {events} {aliases} {anchors} {documents} {nodes} {depth} {bytes} {merge_keys}"
+        "{breached} | {events} {aliases} {anchors} {documents} {nodes} {max_depth} {total_scalar_bytes} {merge_keys}"
     )
 }

@@ -1,5 +1,5 @@
 //! Reads what the enforcer is to observe.
-use anyhow::anyhow;
+use anyhow::{Context, bail};
 use budget::observed::{AnchorNumber, ObservedEvent};
 use events::kinds::{EventKind, ScalarStyle};
 use std::alloc::Global;
@@ -46,26 +46,18 @@ fn read_digit(byte: u8) -> anyhow::Result<u8> {
     match byte {
         b'0'..=b'9' => Ok(byte - b'0'),
         b'a'..=b'f' => Ok(byte - b'a' + 10),
-        _ => Err(anyhow!("no hexadecimal digit")),
+        _ => bail!("no hexadecimal digit"),
     }
 }
 
 /// The bytes that are written with two digits each.
 fn read_hex(heap: Global, digits: &str) -> anyhow::Result<Vec<u8>> {
     let mut bytes = Vec::new(heap);
-    let mut first = None;
-    for byte in digits.bytes() {
-        let digit = read_digit(byte)?;
-        match first {
-            None => first = Some(digit),
-            Some(high) => {
-                bytes.push(high << 4 | digit)?;
-                first = None;
-            }
-        }
-    }
-    if first.is_some() {
-        return Err(anyhow!("half a byte"));
+    let mut digits = digits.bytes();
+    while let Some(high) = digits.next() {
+        let high = read_digit(high)?;
+        let low = read_digit(digits.next().context("half a byte")?)?;
+        bytes.push(high << 4 | low)?;
     }
     Ok(bytes)
 }
@@ -74,18 +66,12 @@ fn read_kind(text: &str) -> anyhow::Result<Option<EventKind>> {
     if text == "r" {
         return Ok(None);
     }
-    let kind = EventKind::from_number(text.parse::<u32>()?);
-    if kind.is_none() {
-        return Err(anyhow!("there are ten kinds"));
-    }
-    Ok(kind)
+    let kind = EventKind::try_from(text.parse::<u32>()?).context("there are ten kinds")?;
+    Ok(Some(kind))
 }
 
 fn read_style(digits: &str) -> anyhow::Result<ScalarStyle> {
-    match ScalarStyle::from_number(number_or(digits, 0)?) {
-        Some(style) => Ok(style),
-        None => Err(anyhow!("there are five styles")),
-    }
+    ScalarStyle::try_from(number_or(digits, 0)?).context("there are five styles")
 }
 
 /// Reads a word of the list.

@@ -1,23 +1,16 @@
 //! Limits and policies as they are written in the call of a program: `NAME=NUMBER` by the limit's name; `max_reader_input_bytes=-` is no limit.
 #![tactic(auto)]
 
-use anyhow::anyhow;
-use budget::limits::{AliasLimits, Budget};
+use anyhow::{Context, bail};
+use budget::limits::{AliasLimits, Limits};
 use budget::policy::{EnforcingPolicy, MergeKeyPolicy};
-
-/// Limits, not checked.
-#[derive(Clone, Copy)]
-pub struct Limits {
-    pub budget: Budget,
-    pub alias_limits: AliasLimits,
-}
 
 fn set_alias_limit(limits: &mut AliasLimits, name: &str, number: u32) -> anyhow::Result<()> {
     match name {
         "max_total_replayed_events" => limits.max_total_replayed_events = number,
         "max_replay_stack_depth" => limits.max_replay_stack_depth = number,
         "max_alias_expansions_per_anchor" => limits.max_alias_expansions_per_anchor = number,
-        _ => return Err(anyhow!("no such limit")),
+        _ => bail!("no such limit"),
     }
     Ok(())
 }
@@ -45,9 +38,7 @@ fn set_limit(limits: &mut Limits, name: &str, number: u32) -> anyhow::Result<()>
 
 /// Sets what `NAME=NUMBER` says.
 pub fn read_limit(limits: &mut Limits, word: &str) -> anyhow::Result<()> {
-    let Some((name, digits)) = word.split_once("=") else {
-        return Err(anyhow!("a limit without a number"));
-    };
+    let (name, digits) = word.split_once("=").context("a limit without a number")?;
     if name == "max_reader_input_bytes" && digits == "-" {
         limits.budget.max_reader_input_bytes = None;
         return Ok(());
@@ -55,17 +46,9 @@ pub fn read_limit(limits: &mut Limits, word: &str) -> anyhow::Result<()> {
     set_limit(limits, name, digits.parse::<u32>()?)
 }
 
-/// The standard limits.
-pub fn standard_limits() -> Limits {
-    Limits {
-        budget: Budget::standard(),
-        alias_limits: AliasLimits::standard(),
-    }
-}
-
 /// The standard limits, changed as the words say.
 pub fn read_limits(column: &str) -> anyhow::Result<Limits> {
-    let mut limits = standard_limits();
+    let mut limits = Limits::default();
     for word in column.split_whitespace() {
         read_limit(&mut limits, word)?;
     }
@@ -76,7 +59,7 @@ fn read_counting(word: &str) -> anyhow::Result<EnforcingPolicy> {
     match word {
         "all-content" => Ok(EnforcingPolicy::AllContent),
         "per-document" => Ok(EnforcingPolicy::PerDocument),
-        _ => Err(anyhow!("no such counting policy")),
+        _ => bail!("no such counting policy"),
     }
 }
 
@@ -85,14 +68,15 @@ fn read_merge(word: &str) -> anyhow::Result<MergeKeyPolicy> {
         "merge" => Ok(MergeKeyPolicy::Merge),
         "as-ordinary" => Ok(MergeKeyPolicy::AsOrdinary),
         "error" => Ok(MergeKeyPolicy::Error),
-        _ => Err(anyhow!("no such merge policy")),
+        _ => bail!("no such merge policy"),
     }
 }
 
 /// What is counted together, and what is done with merge keys.
 pub fn read_policies(column: &str) -> anyhow::Result<(EnforcingPolicy, MergeKeyPolicy)> {
-    let Some((counting, merge)) = column.trim().split_once(" ") else {
-        return Err(anyhow!("two policies are wanted"));
-    };
+    let (counting, merge) = column
+        .trim()
+        .split_once(" ")
+        .context("two policies are wanted")?;
     Ok((read_counting(counting)?, read_merge(merge)?))
 }

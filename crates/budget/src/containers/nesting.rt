@@ -1,9 +1,9 @@
-//! What events do to the open containers. The table is changed in place.
-ghost use Rattle.std.specs.Prelude.{◌≡◌, ◌<◌, [], ◌∷◌, length};
-ghost use Rattle.budget.specs.Nesting.{awaits_key, closing, entered, head_of, is_value, key_next, opened, tail_of, top_is_value, turned, turn_top};
-ghost use Rattle.budget.specs.Containers.{around};
+//! What events do to the open containers.
+ghost use Rattle.std.specs.Prelude.{◌≡◌, ◌<◌, ◌≤◌, [], drop, length, slice_get};
+ghost use Rattle.budget.specs.Nesting.{awaits_key, closing, entered, is_value, key_next, opened, top_is_value, turned, turn_top};
 
 use crate::containers::{ContainerState, OpenContainers};
+use arrayvec::ArrayVec;
 use events::kinds::EventKind;
 
 impl ContainerState {
@@ -85,72 +85,54 @@ impl ContainerState {
 
 impl OpenContainers {
     pub(crate) fn new() -> OpenContainers
-        ensures { around result ≡ [] }
+        ensures { result ≡ [] }
     {
         OpenContainers {
-            states: [ContainerState::Sequence {
-                from_mapping_value: false,
-            }; 256],
-            depth: 0,
+            states: ArrayVec::new(),
         }
     }
 
     /// How many containers are open.
     pub(crate) fn depth(&self) -> u32
-        ensures { (result ≡ length (around self.now)) × (result ≡ self.now.depth) }
+        ensures value { result ≡ length self.now }
+        ensures fits { result ≤ 256 }
     {
-        self.depth as u32
+        self.states.len() as u32
     }
 
     /// Turns the innermost container. Answers whether a container that starts here is a mapping's value.
     pub(crate) fn turn_top(&mut self, kind: EventKind) -> bool
-        ensures state { around self.new ≡ turn_top kind (around self.old) }
-        ensures answer { result ≡ top_is_value kind (around self.old) }
-        ensures same { self.new.depth ≡ self.old.depth }
+        ensures state { self.new ≡ turn_top kind self.old }
+        ensures answer { result ≡ top_is_value kind self.old }
     {
-        if self.depth == 0 {
-            return false;
+        // A match, and no `is_some_and`: the proof does not see what a closure writes through its argument.
+        match self.states.last_mut() {
+            Some(top) => top.turn(kind),
+            None => false,
         }
-        let top = self.depth - 1;
-        self.states[top].turn(kind)
     }
 
     /// A container starts in the one around it.
     pub(crate) fn enter(&mut self, kind: EventKind)
-        requires { self.old.depth < 256 }
-        ensures { around self.new ≡ entered kind (around self.old) }
+        requires { length self.old < 256 }
+        ensures { self.new ≡ entered kind self.old }
     {
         let value = self.turn_top(kind);
-        self.push(ContainerState::opened_by(kind, value));
+        self.states.push(ContainerState::opened_by(kind, value));
     }
 
     /// Whether the next node is a mapping's key.
     pub(crate) fn key_next(&self) -> bool
-        ensures { result ≡ key_next (around self.now) }
+        ensures { result ≡ key_next self.now }
     {
-        if self.depth == 0 {
-            return false;
-        }
-        self.states[self.depth - 1].awaits_key()
-    }
-
-    fn push(&mut self, state: ContainerState)
-        requires { self.old.depth < 256 }
-        ensures { around self.new ≡ state ∷ around self.old }
-    {
-        self.states[self.depth] = state;
-        self.depth += 1;
+        self.states.last().is_some_and(|top| top.awaits_key())
     }
 
     /// Takes the innermost container off.
     pub(crate) fn pop(&mut self) -> Option<ContainerState>
-        ensures state { around self.new ≡ tail_of (around self.old) }
-        ensures answer { result ≡ head_of (around self.old) }
+        ensures state { self.new ≡ drop 1 self.old }
+        ensures answer { result ≡ slice_get self.old 0 }
     {
-        if self.depth == 0 {
-            return None;
-        }
-        self.depth -= 1;
-        Some(self.states[self.depth])
+        self.states.pop()
     }
 }

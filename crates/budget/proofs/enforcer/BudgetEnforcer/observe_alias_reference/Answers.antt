@@ -1,37 +1,14 @@
-use Rattle.std.proofs.Common.{◌≡◌, Err, rules}
-use Rattle.budget.specs.Model.{observed}
+use Rattle.std.proofs.Common.{ap, rules}
 use Rattle.budget.specs.Observed.{reference}
-use Rattle.budget.specs.View.{view}
-use Rattle.budget.proofs.Observations.{breach_for_ever, good_counts, good_within, stuck_answer, stuck_state}
+use Rattle.budget.proofs.Observations.{breach_for_ever, good_counts}
 use Rattle.budget.proofs.enforcer.BudgetEnforcer.observe_alias_reference.Goals as goal
 
-pub returns-in-Some : goal.returns-in-Some
-returns-in-Some c =
-    let s = c.args.self.now in
-    let i = reference in
-    let b = c.in-Some.breach in
-    let answer = stuck_answer s i b c.in-Some.is in
-    let state = stuck_state s i b c.in-Some.is in
-    record {
-      answers_as_defined = answer;
-      leaves_as_defined = state;
-      a_breach_is_answered_for_ever = breach_for_ever s i (Err b) (view s) answer state;
-      a_good_answer_counts_exactly = good_counts s i (Err b) (view s) answer state;
-      a_good_answer_stays_within_the_limits = good_within s i (Err b) (view s) answer state;
-    }
+pub returns-in-Some-clause-a_breach_is_answered_for_ever : goal.returns-in-Some-clause-a_breach_is_answered_for_ever
+returns-in-Some-clause-a_breach_is_answered_for_ever c = breach_for_ever c.args.self.now reference _ _ (search rules) (search rules)
 
-pub returns : goal.returns
-returns c =
-    let s = c.args.self.now in
-    let i = reference in
-    let r = c.count_reference-result.result in
-    let n = view c.remember.new.self in
-    let answer : r ≡ (observed i (view s)).1 = search rules in
-    let state : n ≡ (observed i (view s)).0 = search rules in
-    record {
-      answers_as_defined = answer;
-      leaves_as_defined = state;
-      a_breach_is_answered_for_ever = breach_for_ever s i r n answer state;
-      a_good_answer_counts_exactly = good_counts s i r n answer state;
-      a_good_answer_stays_within_the_limits = good_within s i r n answer state;
-    }
+pub returns-clause-a_breach_is_answered_for_ever : goal.returns-clause-a_breach_is_answered_for_ever
+returns-clause-a_breach_is_answered_for_ever c = breach_for_ever c.args.self.now reference _ _ (search rules) (search rules)
+
+pub returns-clause-a_good_answer_counts_exactly : goal.returns-clause-a_good_answer_counts_exactly
+returns-clause-a_good_answer_counts_exactly c =
+    good_counts c.self.inside.limits c.args.self.now (ap (λ m. m.budget) c.self.view_is) reference _ _ (search rules) (search rules)
