@@ -85,7 +85,7 @@ pub record Written (s : Score) (d p n : ℕ) (w w' : Work) : Type 0 where
   pub unfolds : Unfolds s.events p n out aliases
   pub tape : w'.tape ≡ w.tape ++ map (λ k. s.base + k) out
   pub enforcer : w'.enforcer ≡ observing (replicate aliases reference) w.enforcer
-  counted : Bounds s.budget s.alias_limits → Exact w.counts → Counted s.events d p n out aliases w.counts w'.counts
+  counted : Bounds s.limits.budget s.limits.alias_limits → Exact w.counts → Counted s.events d p n out aliases w.counts w'.counts
 
 -- counts once an alias, and once an event, is counted
 
@@ -113,7 +113,7 @@ abbrev Adds : Score → ℕ → ℕ → Work → Work → Type 0
 Adds s d p w u = (n : ℕ) (w' : Work) → Written s d (suc p) n u w' → Written s d p (suc n) w w'
 
 module _ (s : Score) (d p : ℕ) (w : Work) where
-  adds_alias : (m : Model) (v : Work) → m ≡ (observed reference w.enforcer).0 → 1 ≤ d → is_alias_at s p ≡ true → up w.counts.aliases 1 ≤ s.budget.max_aliases → Written s (d + 1) (range s (named_at s p)).first ((range s (named_at s p)).last + 1 - (range s (named_at s p)).first) (expanded_at (named_at s p) w m) v → Adds s d p w v
+  adds_alias : (m : Model) (v : Work) → m ≡ (observed reference w.enforcer).0 → 1 ≤ d → is_alias_at s p ≡ true → up w.counts.aliases 1 ≤ s.limits.budget.max_aliases → Written s (d + 1) (range s (named_at s p)).first ((range s (named_at s p)).last + 1 - (range s (named_at s p)).first) (expanded_at (named_at s p) w m) v → Adds s d p w v
   adds_alias m v now one al few i n w' r =
       record {
         out = i.out ++ r.out;
@@ -124,7 +124,7 @@ module _ (s : Score) (d p : ℕ) (w : Work) where
         counted = counts;
       }
     where
-      counts : Bounds s.budget s.alias_limits → Exact w.counts → Counted s.events d p (suc n) (i.out ++ r.out) (suc (i.aliases + r.aliases)) w.counts w'.counts
+      counts : Bounds s.limits.budget s.limits.alias_limits → Exact w.counts → Counted s.events d p (suc n) (i.out ++ r.out) (suc (i.aliases + r.aliases)) w.counts w'.counts
       counts b x =
           let j = i.counted b (exact_alias (named_at s p) w.counts (omega (arith, b.aliases)) x) in
           let q = r.counted b j.exact in
@@ -147,22 +147,22 @@ module _ (s : Score) (d p : ℕ) (w : Work) where
     unfolds_event : Unfolds s.events p (suc n) (p ∷ r.out) r.aliases
     unfolds_event = keeps (other_is (kind (event_at s p)) other) r.unfolds
 
-  adds_again : 1 < d → is_alias_at s p ≡ false → up w.counts.charged 1 ≤ s.alias_limits.max_total_replayed_events → up w.counts.written 1 ≤ s.budget.max_events → Adds s d p w (written_at s p (replayed_at w))
+  adds_again : 1 < d → is_alias_at s p ≡ false → up w.counts.charged 1 ≤ s.limits.alias_limits.max_total_replayed_events → up w.counts.written 1 ≤ s.limits.budget.max_events → Adds s d p w (written_at s p (replayed_at w))
   adds_again two other few short n w' r =
       record { out = p ∷ r.out; aliases = r.aliases; unfolds = unfolds_event n w' (written_at s p (replayed_at w)) r refl other; tape = tape_event n w' (written_at s p (replayed_at w)) r refl other; enforcer = r.enforcer; counted = counts }
     where
-      counts : Bounds s.budget s.alias_limits → Exact w.counts → Counted s.events d p (suc n) (p ∷ r.out) r.aliases w.counts w'.counts
+      counts : Bounds s.limits.budget s.limits.alias_limits → Exact w.counts → Counted s.events d p (suc n) (p ∷ r.out) r.aliases w.counts w'.counts
       counts b x =
           let q = r.counted b (exact_again (value_bytes (event_at s p)) w.counts (omega (arith, b.replayed)) (omega (arith, b.events)) x) in
           let y = kept_inner s.events d p (suc n) two in
           let z = kept_inner s.events d (suc p) n two in
           record { written = omega (arith, q.written, x.short); replaced = q.replaced; replayed = omega (arith, q.replayed, x.little); charged_aliases = q.charged_aliases; charged_replayed = omega (arith, q.charged_replayed, b.replayed); exact = q.exact }
 
-  adds_once : d ≤ 1 → is_alias_at s p ≡ false → up w.counts.written 1 ≤ s.budget.max_events → Adds s d p w (written_at s p w)
+  adds_once : d ≤ 1 → is_alias_at s p ≡ false → up w.counts.written 1 ≤ s.limits.budget.max_events → Adds s d p w (written_at s p w)
   adds_once one other short n w' r =
       record { out = p ∷ r.out; aliases = r.aliases; unfolds = unfolds_event n w' (written_at s p w) r refl other; tape = tape_event n w' (written_at s p w) r refl other; enforcer = r.enforcer; counted = counts }
     where
-      counts : Bounds s.budget s.alias_limits → Exact w.counts → Counted s.events d p (suc n) (p ∷ r.out) r.aliases w.counts w'.counts
+      counts : Bounds s.limits.budget s.limits.alias_limits → Exact w.counts → Counted s.events d p (suc n) (p ∷ r.out) r.aliases w.counts w'.counts
       counts b x =
           let q = r.counted b (exact_once (value_bytes (event_at s p)) w.counts (omega (arith, b.events)) x) in
           let y = kept_event s.events d p n one other in
@@ -226,7 +226,7 @@ pub record Exactly (s : Score) (p n : ℕ) (out : List ℕ) (a : ℕ) (c c' : Co
   pub charged_aliases : c'.aliases ≡ c.aliases + c'.replaced
   pub charged_replayed : c'.charged ≡ c.charged + c'.replayed
 
-pub counted_exactly : (s : Score) (p n : ℕ) (w w' : Work) → Bounds s.budget s.alias_limits → w.counts.written ≡ 0 → w.counts.replaced ≡ 0 → w.counts.replayed ≡ 0 → (r : Written s 1 p n w w') → Exactly s p n r.out r.aliases w.counts w'.counts
+pub counted_exactly : (s : Score) (p n : ℕ) (w w' : Work) → Bounds s.limits.budget s.limits.alias_limits → w.counts.written ≡ 0 → w.counts.replaced ≡ 0 → w.counts.replayed ≡ 0 → (r : Written s 1 p n w w') → Exactly s p n r.out r.aliases w.counts w'.counts
 unfolding kept
 counted_exactly s p n w w' b z y x r =
     let k = r.counted b (record { within = omega arith; few = omega arith; again = omega arith; little = omega arith; short = omega arith }) in

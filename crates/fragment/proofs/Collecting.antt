@@ -4,7 +4,7 @@ use Rattle.std.proofs.lemmas.List.{drop_more, drop_all}
 use Rattle.std.proofs.lemmas.Bool.{ltb-false}
 use Rattle.events.specs.declared.score.Event.{Event}
 use Rattle.events.specs.Scores.{kind, no_event}
-use Rattle.events.specs.Tables.{or_else}
+use Rattle.std.specs.Option.{option_or}
 use Rattle.events.proofs.Filling.{deeper_le}
 use Rattle.budget.specs.declared.limits.Budget.{Budget}
 use Rattle.fragment.specs.declared.answers.FragmentError.{FragmentError}
@@ -15,7 +15,7 @@ never : {X : Type 0} {e : FragmentError} → ◌≡◌ {A = Option FragmentError
 never q = let z : ◌≡◌ {A = ℕ} 0 1 = cc in absurd (omega arith)
 
 -- where nothing is told, neither part tells anything
-pub neither : (a b : Option FragmentError) → or_else a b ≡ None → (a ≡ None) × (b ≡ None)
+pub neither : (a b : Option FragmentError) → option_or a b ≡ None → (a ≡ None) × (b ≡ None)
 neither None b q = (refl, q)
 neither (Some e) b q = never q
 
@@ -59,7 +59,7 @@ module _ (b : Budget) (es : List Event) (i : ℕ) (c : Collected) (h : i < lengt
   abbrev e : Event
   e = get_or es i no_event
 
-  split : or_else (cause_at b c.events e (with_event e c)) (first_cause b (with_event e c) (drop (i + 1) es)) ≡ first_cause b nothing es
+  split : option_or (cause_at b c.events e (with_event e c)) (first_cause b (with_event e c) (drop (i + 1) es)) ≡ first_cause b nothing es
   split = sym (ap (first_cause b c) (drop_more es i no_event h)) ∙ g.left
 
   pub goes_on : cause_at b c.events e (with_event e c) ≡ None → Going b es (i + 1) (with_event e c)
@@ -67,10 +67,10 @@ module _ (b : Budget) (es : List Event) (i : ℕ) (c : Collected) (h : i < lengt
       let p = passed b c.events e (with_event e c) q in
       let d = deeper_le (kind e) c.depth in
       let o = one_document_le e in
-      record { left = sym (ap (λ o. or_else o (first_cause b (with_event e c) (drop (i + 1) es))) q) ∙ split; documents = omega (arith, o, g.documents); depth = omega (arith, d, g.depth); bytes = p.bytes; events = omega (arith, g.events) }
+      record { left = sym (ap (λ o. option_or o (first_cause b (with_event e c) (drop (i + 1) es))) q) ∙ split; documents = omega (arith, o, g.documents); depth = omega (arith, d, g.depth); bytes = p.bytes; events = omega (arith, g.events) }
 
   pub stops : (x : FragmentError) → cause_at b c.events e (with_event e c) ≡ Some x → first_cause b nothing es ≡ Some x
-  stops x q = sym split ∙ ap (λ o. or_else o (first_cause b (with_event e c) (drop (i + 1) es))) q
+  stops x q = sym split ∙ ap (λ o. option_or o (first_cause b (with_event e c) (drop (i + 1) es))) q
 
 pub ends : (b : Budget) (es : List Event) (i : ℕ) (c : Collected) → length es ≤ i → Going b es i c → first_cause b nothing es ≡ None
 ends b es i c h g = sym g.left ∙ ap (first_cause b c) (drop_all i es h)

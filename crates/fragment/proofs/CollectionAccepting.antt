@@ -6,7 +6,7 @@ use Rattle.events.specs.declared.kinds.EventKind.{EventKind}
 use Rattle.events.specs.declared.kinds.EventKind.TheVariants.{StreamStart, StreamEnd, DocumentStart, DocumentEnd, Alias, Scalar, SequenceStart, SequenceEnd, MappingStart, MappingEnd}
 use Rattle.events.specs.Scores.{kind}
 use Rattle.events.specs.Nodes.{deeper}
-use Rattle.events.specs.Tables.{or_else}
+use Rattle.std.specs.Option.{option_or}
 use Rattle.budget.specs.declared.limits.Budget.{Budget}
 use Rattle.fragment.specs.declared.answers.FragmentError.{FragmentError}
 use Rattle.fragment.specs.declared.collection.Collected.{Collected}
@@ -51,7 +51,7 @@ causeless : (t : Bool) (x : FragmentError) → t ≡ false → cause_if t x ≡ 
 causeless true x q = let z : ◌≡◌ {A = ℕ} 0 1 = cc in absurd (omega arith)
 causeless false x q = refl
 
-nor : (a b : Option FragmentError) → a ≡ None → b ≡ None → or_else a b ≡ None
+nor : (a b : Option FragmentError) → a ≡ None → b ≡ None → option_or a b ≡ None
 nor None b p q = q
 nor (Some x) b p q = p
 

@@ -3,7 +3,7 @@ use Rattle.std.proofs.Common.{◌≡◌, ℕ, zero, suc, ◌+◌, ◌<◌, List,
 use Rattle.events.specs.declared.score.Event.{Event}
 use Rattle.events.specs.Scores.{kind, no_event}
 use Rattle.events.specs.Nodes.{deeper}
-use Rattle.events.specs.Tables.{or_else}
+use Rattle.std.specs.Option.{option_or}
 use Rattle.budget.specs.declared.limits.Budget.{Budget}
 use Rattle.fragment.specs.declared.answers.FragmentError.{FragmentError}
 use Rattle.fragment.specs.declared.collection.Collected.{Collected}
@@ -44,7 +44,7 @@ told_first b c (e ∷ es) x q = at (cause_at b c.events e (with_event e c)) refl
     before r g zero h = here b c e es ∙ r
     before r g (suc k) h = later b c e es k ∙ g.none_before k (omega arith)
 
-    at : (o : Option FragmentError) → cause_at b c.events e (with_event e c) ≡ o → or_else o (first_cause b (with_event e c) es) ≡ Some x → (first_cause b (with_event e c) es ≡ Some x → FirstBehind b (with_event e c) es x) → FirstBehind b c (e ∷ es) x
+    at : (o : Option FragmentError) → cause_at b c.events e (with_event e c) ≡ o → option_or o (first_cause b (with_event e c) es) ≡ Some x → (first_cause b (with_event e c) es ≡ Some x → FirstBehind b (with_event e c) es x) → FirstBehind b c (e ∷ es) x
     at (Some y) r f rest = record { place = 0; inside = omega arith; cause = here b c e es ∙ r ∙ f; none_before = λ k h. absurd (omega arith) }
     at None r f rest =
         let g = rest f in
@@ -52,9 +52,9 @@ told_first b c (e ∷ es) x q = at (cause_at b c.events e (with_event e c)) refl
 
 first_told : (b : Budget) (c : Collected) (es : List Event) (x : FragmentError) (p : ℕ) → p < length es → cause_behind b c es p ≡ Some x → ((q : ℕ) → q < p → cause_behind b c es q ≡ None) → first_cause b c es ≡ Some x
 first_told b c [] x p h s n = absurd (omega arith)
-first_told b c (e ∷ es) x zero h s n = ap (λ o. or_else o (first_cause b (with_event e c) es)) (sym (here b c e es) ∙ s)
+first_told b c (e ∷ es) x zero h s n = ap (λ o. option_or o (first_cause b (with_event e c) es)) (sym (here b c e es) ∙ s)
 first_told b c (e ∷ es) x (suc p) h s n =
-    ap (λ o. or_else o (first_cause b (with_event e c) es)) (sym (here b c e es) ∙ n 0 (omega arith))
+    ap (λ o. option_or o (first_cause b (with_event e c) es)) (sym (here b c e es) ∙ n 0 (omega arith))
     ∙ first_told b (with_event e c) es x p (omega arith) (sym (later b c e es p) ∙ s) (λ q k. sym (later b c e es q) ∙ n (suc q) (omega arith))
 
 -- from the first event on

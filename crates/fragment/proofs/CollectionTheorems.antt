@@ -4,7 +4,8 @@ use Rattle.std.proofs.lemmas.Bool.{ltb-true, ltb-false, lt-ltb, le-ltb, both_way
 use Rattle.events.specs.declared.score.Mark.{Mark}
 use Rattle.events.specs.declared.score.Piece.{Piece}
 use Rattle.events.specs.Scores.{Lists, marks_of, events_of}
-use Rattle.events.specs.Tables.{or_else, last_named, IsLast, NoneNamed, FindsLast}
+use Rattle.events.specs.Tables.{last_named, IsLast, NoneNamed, FindsLast}
+use Rattle.std.specs.Option.{option_or}
 use Rattle.events.proofs.LastMarks.{finds_last}
 use Rattle.budget.specs.declared.limits.Budget.{Budget}
 use Rattle.budget.specs.declared.breach.BudgetBreach.TheVariants.{Anchors}
@@ -37,7 +38,7 @@ module _ (b : Budget) (l : Lists) (p : Piece) (name : List ℕ) where
   too_many = CollectionBreach (Anchors (b.max_anchors + 1))
 
   abbrev answer : Bool → Option FragmentError → Option ℕ → Result ℕ FragmentError
-  answer t o m = target_unless (or_else (cause_if t too_many) o) m
+  answer t o m = target_unless (option_or (cause_if t too_many) o) m
 
   within : length (marks_of l p) ≤ b.max_anchors → first_cause b nothing (events_of l p) ≡ None → WithinTheBudget b (marks_of l p) (events_of l p)
   within few q =

@@ -98,10 +98,10 @@ expanded_at n w m = with_counts (charged_at w m) (one_expansion n (one_alias w.c
 pub record AliasWays (P : Work → Type 0) (R : FragmentError → Work → Type 0) (s : Score) (slate : List ℕ) (d n : ℕ) (w : Work) : Type 0 where
   pub is_open : (get_or slate (n - 1) 0 ≡ 0 → ⊥) → R (OpenRange n) w
   pub breached : (b : BudgetBreach) → (observed reference w.enforcer).1 ≡ Err b → R (EnforcerBreach b) (charged_at w (observed reference w.enforcer).0)
-  pub many : (m : Model) → m ≡ (observed reference w.enforcer).0 → (observed reference w.enforcer).1 ≡ Ok tt → s.budget.max_aliases < up w.counts.aliases 1 → R (UnfoldingBreach (Aliases (up w.counts.aliases 1))) (charged_at w m)
-  pub often : (m : Model) → s.alias_limits.max_alias_expansions_per_anchor < up (get_or w.counts.expansions (n - 1) 0) 1 → R (Expansions (up (get_or w.counts.expansions (n - 1) 0) 1)) (expanded_at n w m)
-  pub deep : (m : Model) → s.alias_limits.max_replay_stack_depth < d → R (ReplayDepth d) (expanded_at n w m)
-  pub onward : (m : Model) → m ≡ (observed reference w.enforcer).0 → (observed reference w.enforcer).1 ≡ Ok tt → get_or slate (n - 1) 0 ≡ 0 → up w.counts.aliases 1 ≤ s.budget.max_aliases → up (get_or w.counts.expansions (n - 1) 0) 1 ≤ s.alias_limits.max_alias_expansions_per_anchor → d ≤ s.alias_limits.max_replay_stack_depth → P (expanded_at n w m)
+  pub many : (m : Model) → m ≡ (observed reference w.enforcer).0 → (observed reference w.enforcer).1 ≡ Ok tt → s.limits.budget.max_aliases < up w.counts.aliases 1 → R (UnfoldingBreach (Aliases (up w.counts.aliases 1))) (charged_at w m)
+  pub often : (m : Model) → s.limits.alias_limits.max_alias_expansions_per_anchor < up (get_or w.counts.expansions (n - 1) 0) 1 → R (Expansions (up (get_or w.counts.expansions (n - 1) 0) 1)) (expanded_at n w m)
+  pub deep : (m : Model) → s.limits.alias_limits.max_replay_stack_depth < d → R (ReplayDepth d) (expanded_at n w m)
+  pub onward : (m : Model) → m ≡ (observed reference w.enforcer).0 → (observed reference w.enforcer).1 ≡ Ok tt → get_or slate (n - 1) 0 ≡ 0 → up w.counts.aliases 1 ≤ s.limits.budget.max_aliases → up (get_or w.counts.expansions (n - 1) 0) 1 ≤ s.limits.alias_limits.max_alias_expansions_per_anchor → d ≤ s.limits.alias_limits.max_replay_stack_depth → P (expanded_at n w m)
 
 module _ (P : Work → Type 0) (R : FragmentError → Work → Type 0) (s : Score) (slate : List ℕ) (d n : ℕ) (w : Work) where
   pub alias_ends : AliasWays P R s slate d n w → Ends P R (alias_step s slate d n w)
@@ -110,20 +110,20 @@ module _ (P : Work → Type 0) (R : FragmentError → Work → Type 0) (s : Scor
       (λ z. refer_then P R (with_counts w (one_alias w.counts)) (observed reference w.enforcer) judged ways.breached (referred (observed reference w.enforcer).0 refl (eqb-true (get_or slate (n - 1) 0) 0 z)))
     where
       deepened : Work → Ended Work
-      deepened = judge_depth s.alias_limits d
+      deepened = judge_depth s.limits.alias_limits d
 
       judged : Work → Ended Work
-      judged v = next (judge_aliases s.budget v) (λ v. next (expand s.alias_limits n v) deepened)
+      judged v = next (judge_aliases s.limits.budget v) (λ v. next (expand s.limits.alias_limits n v) deepened)
 
       referred : (m : Model) → m ≡ (observed reference w.enforcer).0 → get_or slate (n - 1) 0 ≡ 0 → (observed reference w.enforcer).1 ≡ Ok tt → Ends P R (judged (charged_at w m))
       referred m e z ok =
           let c = one_alias w.counts in
           let k = up (get_or w.counts.expansions (n - 1) 0) 1 in
-          test_then P R (ltb s.budget.max_aliases (up w.counts.aliases 1)) (UnfoldingBreach (Aliases (up w.counts.aliases 1))) (charged_at w m) (charged_at w m) (λ v. next (expand s.alias_limits n v) deepened)
-          (λ b. ways.many m e ok (ltb-true s.budget.max_aliases (up w.counts.aliases 1) b))
-          (λ b. test_then P R (ltb s.alias_limits.max_alias_expansions_per_anchor k) (Expansions k) (expanded_at n w m) (expanded_at n w m) deepened (λ b. ways.often m (ltb-true s.alias_limits.max_alias_expansions_per_anchor k b))
-          (λ x. test_last P R (ltb s.alias_limits.max_replay_stack_depth d) (ReplayDepth d) (expanded_at n w m) (expanded_at n w m) (λ b. ways.deep m (ltb-true s.alias_limits.max_replay_stack_depth d b))
-          (λ y. ways.onward m e ok z (ltb-false s.budget.max_aliases (up w.counts.aliases 1) b) (ltb-false s.alias_limits.max_alias_expansions_per_anchor k x) (ltb-false s.alias_limits.max_replay_stack_depth d y))))
+          test_then P R (ltb s.limits.budget.max_aliases (up w.counts.aliases 1)) (UnfoldingBreach (Aliases (up w.counts.aliases 1))) (charged_at w m) (charged_at w m) (λ v. next (expand s.limits.alias_limits n v) deepened)
+          (λ b. ways.many m e ok (ltb-true s.limits.budget.max_aliases (up w.counts.aliases 1) b))
+          (λ b. test_then P R (ltb s.limits.alias_limits.max_alias_expansions_per_anchor k) (Expansions k) (expanded_at n w m) (expanded_at n w m) deepened (λ b. ways.often m (ltb-true s.limits.alias_limits.max_alias_expansions_per_anchor k b))
+          (λ x. test_last P R (ltb s.limits.alias_limits.max_replay_stack_depth d) (ReplayDepth d) (expanded_at n w m) (expanded_at n w m) (λ b. ways.deep m (ltb-true s.limits.alias_limits.max_replay_stack_depth d b))
+          (λ y. ways.onward m e ok z (ltb-false s.limits.budget.max_aliases (up w.counts.aliases 1) b) (ltb-false s.limits.alias_limits.max_alias_expansions_per_anchor k x) (ltb-false s.limits.alias_limits.max_replay_stack_depth d y))))
 
 -- at another event
 
@@ -144,15 +144,15 @@ replayed_at w = with_counts w (one_replayed w.counts)
 
 -- the ways out of the tests of an event, once it is replayed if it is to be
 pub record WriteWays (P : Work → Type 0) (R : FragmentError → Work → Type 0) (s : Score) (p : ℕ) (w : Work) : Type 0 where
-  pub heavy : s.budget.max_total_scalar_bytes < up w.counts.bytes (value_bytes (event_at s p)) → R (UnfoldingBreach (ScalarBytes (up w.counts.bytes (value_bytes (event_at s p))))) (weighed_at s p w)
-  pub long : s.budget.max_events < up w.counts.written 1 → R (UnfoldingBreach (Events (up w.counts.written 1))) (counted_at s p w)
+  pub heavy : s.limits.budget.max_total_scalar_bytes < up w.counts.bytes (value_bytes (event_at s p)) → R (UnfoldingBreach (ScalarBytes (up w.counts.bytes (value_bytes (event_at s p))))) (weighed_at s p w)
+  pub long : s.limits.budget.max_events < up w.counts.written 1 → R (UnfoldingBreach (Events (up w.counts.written 1))) (counted_at s p w)
   pub full : 8192 ≤ length w.tape → R TapeFull (counted_at s p w)
-  pub onward : up w.counts.bytes (value_bytes (event_at s p)) ≤ s.budget.max_total_scalar_bytes → up w.counts.written 1 ≤ s.budget.max_events → length w.tape < 8192 → P (written_at s p w)
+  pub onward : up w.counts.bytes (value_bytes (event_at s p)) ≤ s.limits.budget.max_total_scalar_bytes → up w.counts.written 1 ≤ s.limits.budget.max_events → length w.tape < 8192 → P (written_at s p w)
 
 -- the ways out of the tests of an event
 pub record EventWays (P : Work → Type 0) (R : FragmentError → Work → Type 0) (s : Score) (d p : ℕ) (w : Work) : Type 0 where
-  pub much : 1 < d → s.alias_limits.max_total_replayed_events < up w.counts.charged 1 → R (ReplayedTotal (up w.counts.charged 1)) (replayed_at w)
-  pub again : 1 < d → up w.counts.charged 1 ≤ s.alias_limits.max_total_replayed_events → WriteWays P R s p (replayed_at w)
+  pub much : 1 < d → s.limits.alias_limits.max_total_replayed_events < up w.counts.charged 1 → R (ReplayedTotal (up w.counts.charged 1)) (replayed_at w)
+  pub again : 1 < d → up w.counts.charged 1 ≤ s.limits.alias_limits.max_total_replayed_events → WriteWays P R s p (replayed_at w)
   pub once : d ≤ 1 → WriteWays P R s p w
 
 module _ (P : Work → Type 0) (R : FragmentError → Work → Type 0) (s : Score) (d p : ℕ) where
@@ -163,13 +163,13 @@ module _ (P : Work → Type 0) (R : FragmentError → Work → Type 0) (s : Scor
       at true b = on (ltb-true (length w.tape) 8192 b)
       at false b = stop (ltb-false (length w.tape) 8192 b)
 
-  weigh_ends : (w : Work) → WriteWays P R s p w → Ends P R (next (weigh s.budget (event_at s p) w) (λ v. next (count_event s.budget v) (write (s.base + p))))
+  weigh_ends : (w : Work) → WriteWays P R s p w → Ends P R (next (weigh s.limits.budget (event_at s p) w) (λ v. next (count_event s.limits.budget v) (write (s.base + p))))
   weigh_ends w ways =
       let k = up w.counts.bytes (value_bytes (event_at s p)) in
       let n = up w.counts.written 1 in
-      test_then P R (ltb s.budget.max_total_scalar_bytes k) (UnfoldingBreach (ScalarBytes k)) (weighed_at s p w) (weighed_at s p w) (λ v. next (count_event s.budget v) (write (s.base + p))) (λ b. ways.heavy (ltb-true s.budget.max_total_scalar_bytes k b))
-      (λ a. test_then P R (ltb s.budget.max_events n) (UnfoldingBreach (Events n)) (counted_at s p w) (counted_at s p w) (write (s.base + p)) (λ b. ways.long (ltb-true s.budget.max_events n b))
-      (λ b. write_ends (counted_at s p w) (ways.onward (ltb-false s.budget.max_total_scalar_bytes k a) (ltb-false s.budget.max_events n b)) ways.full))
+      test_then P R (ltb s.limits.budget.max_total_scalar_bytes k) (UnfoldingBreach (ScalarBytes k)) (weighed_at s p w) (weighed_at s p w) (λ v. next (count_event s.limits.budget v) (write (s.base + p))) (λ b. ways.heavy (ltb-true s.limits.budget.max_total_scalar_bytes k b))
+      (λ a. test_then P R (ltb s.limits.budget.max_events n) (UnfoldingBreach (Events n)) (counted_at s p w) (counted_at s p w) (write (s.base + p)) (λ b. ways.long (ltb-true s.limits.budget.max_events n b))
+      (λ b. write_ends (counted_at s p w) (ways.onward (ltb-false s.limits.budget.max_total_scalar_bytes k a) (ltb-false s.limits.budget.max_events n b)) ways.full))
 
   pub event_ends : (w : Work) → EventWays P R s d p w → Ends P R (event_step s d p w)
   event_ends w ways = at (ltb 1 d) refl
@@ -178,12 +178,12 @@ module _ (P : Work → Type 0) (R : FragmentError → Work → Type 0) (s : Scor
       k = up w.counts.charged 1
 
       rest : Work → Ended Work
-      rest v = next (weigh s.budget (event_at s p) v) (λ v. next (count_event s.budget v) (write (s.base + p)))
+      rest v = next (weigh s.limits.budget (event_at s p) v) (λ v. next (count_event s.limits.budget v) (write (s.base + p)))
 
-      at : (b : Bool) → ltb 1 d ≡ b → Ends P R (next (cond b (cond (ltb s.alias_limits.max_total_replayed_events k) (refused (ReplayedTotal k) (replayed_at w)) (went (replayed_at w))) (went w)) rest)
+      at : (b : Bool) → ltb 1 d ≡ b → Ends P R (next (cond b (cond (ltb s.limits.alias_limits.max_total_replayed_events k) (refused (ReplayedTotal k) (replayed_at w)) (went (replayed_at w))) (went w)) rest)
       at true b =
-          test_then P R (ltb s.alias_limits.max_total_replayed_events k) (ReplayedTotal k) (replayed_at w) (replayed_at w) rest (λ z. ways.much (ltb-true 1 d b) (ltb-true s.alias_limits.max_total_replayed_events k z))
-          (λ z. weigh_ends (replayed_at w) (ways.again (ltb-true 1 d b) (ltb-false s.alias_limits.max_total_replayed_events k z)))
+          test_then P R (ltb s.limits.alias_limits.max_total_replayed_events k) (ReplayedTotal k) (replayed_at w) (replayed_at w) rest (λ z. ways.much (ltb-true 1 d b) (ltb-true s.limits.alias_limits.max_total_replayed_events k z))
+          (λ z. weigh_ends (replayed_at w) (ways.again (ltb-true 1 d b) (ltb-false s.limits.alias_limits.max_total_replayed_events k z)))
       at false b = weigh_ends w (ways.once (ltb-false 1 d b))
 
 -- at one place of an open range

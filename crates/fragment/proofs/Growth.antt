@@ -49,11 +49,11 @@ depth_grows l d w = judged (ltb l.max_replay_stack_depth d) w w w (ReplayDepth d
 
 expanding_grows : (s : Score) (d n : ℕ) → Grows (expanding s d n)
 expanding_grows s d n w =
-    next_grows w (expand s.alias_limits n w) (judge_depth s.alias_limits d) (judged _ w _ _ _ refl refl) (depth_grows s.alias_limits d)
+    next_grows w (expand s.limits.alias_limits n w) (judge_depth s.limits.alias_limits d) (judged _ w _ _ _ refl refl) (depth_grows s.limits.alias_limits d)
 
 judging_grows : (s : Score) (d n : ℕ) → Grows (judging s d n)
 judging_grows s d n w =
-    next_grows w (judge_aliases s.budget w) (expanding s d n) (judged _ w _ _ _ refl refl) (expanding_grows s d n)
+    next_grows w (judge_aliases s.limits.budget w) (expanding s d n) (judged _ w _ _ _ refl refl) (expanding_grows s d n)
 
 referring_grows : (s : Score) (d n : ℕ) → Grows (referring s d n)
 referring_grows s d n w =
@@ -79,7 +79,7 @@ write_grows p w = at (ltb (length w.tape) 8192)
 
 event_grows : (s : Score) (d p : ℕ) → Grows (event_step s d p)
 event_grows s d p w =
-    next_grows w (replay s.alias_limits d w) _ (replay_grows s.alias_limits d w) (λ v. next_grows v (weigh s.budget (event_at s p) v) _ (judged _ v _ _ _ refl refl) (λ v. next_grows v (count_event s.budget v) _ (judged _ v _ _ _ refl refl) (write_grows (s.base + p))))
+    next_grows w (replay s.limits.alias_limits d w) _ (replay_grows s.limits.alias_limits d w) (λ v. next_grows v (weigh s.limits.budget (event_at s p) v) _ (judged _ v _ _ _ refl refl) (λ v. next_grows v (count_event s.limits.budget v) _ (judged _ v _ _ _ refl refl) (write_grows (s.base + p))))
 
 abbrev AllGrow : Opens → Type 0
 AllGrow o = (slate : List ℕ) (d : ℕ) (r : NodeRange) → Grows (o slate d r)

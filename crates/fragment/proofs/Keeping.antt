@@ -5,7 +5,7 @@ use Rattle.events.specs.declared.score.NodeRange.{NodeRange}
 use Rattle.budget.specs.declared.breach.BudgetBreach.{BudgetBreach}
 use Rattle.budget.specs.declared.breach.BudgetBreach.TheVariants.{Events, Aliases}
 use Rattle.budget.specs.Counts.{Answer, up, count_event, count_alias}
-use Rattle.budget.specs.Model.{Model, Outcome, good, on_good, counting, observed}
+use Rattle.budget.specs.Model.{Model, Outcome, on_good, counting, observed}
 use Rattle.budget.specs.Observed.{reference}
 use Rattle.budget.proofs.Sticks.{counted_well, remembered}
 use Rattle.fragment.specs.declared.answers.FragmentError.{FragmentError}
@@ -71,7 +71,7 @@ referred m e =
     two b = cond b (Err (Aliases (up m.report.aliases 1))) (Ok tt)
 
     whole : Bool → Bool → Outcome
-    whole a b = on_good (one a) (on_good (two b) (good second) (second, two b)) (first, one a)
+    whole a b = on_good (one a) (second, two b) (first, one a)
 
     at : (a b : Bool) → ltb m.budget.max_aliases (up m.report.aliases 1) ≡ b → (whole a b).1 ≡ Ok tt → Referred m (whole a b).0
     at true b h ok = never_good (Events (up m.report.events 1)) ok
@@ -83,20 +83,20 @@ Another e w = is e alias_charge ≡ false
 
 -- the enforcer allows no more aliases, and has counted no fewer than were charged
 pub record Ahead (s : Score) (w : Work) : Type 0 where
-  pub stricter : w.enforcer.budget.max_aliases ≤ s.budget.max_aliases
+  pub stricter : w.enforcer.budget.max_aliases ≤ s.limits.budget.max_aliases
   pub more : w.counts.aliases ≤ w.enforcer.report.aliases
 
 ahead_alias : (s : Score) (slate : List ℕ) (d n : ℕ) (w : Work) → Ahead s w → AliasWays (Ahead s) Another s slate d n w
 ahead_alias s slate d n w i =
     record { is_open = λ _. refl; breached = λ _ _. refl; many = λ m e ok f. absurd (late m ok f); often = λ _ _. refl; deep = λ _ _. refl; onward = λ m e ok _ _ _ _. subst (λ k. Ahead s (expanded_at n w k)) (sym e) (ahead ok) }
   where
-    late : (m : Model) → (observed reference w.enforcer).1 ≡ Ok tt → s.budget.max_aliases < up w.counts.aliases 1 → ⊥
+    late : (m : Model) → (observed reference w.enforcer).1 ≡ Ok tt → s.limits.budget.max_aliases < up w.counts.aliases 1 → ⊥
     late m ok f = let r = referred w.enforcer ok in omega (arith, r.few, i.stricter, i.more)
 
     ahead : (observed reference w.enforcer).1 ≡ Ok tt → Ahead s (expanded_at n w (observed reference w.enforcer).0)
     ahead ok =
         let r = referred w.enforcer ok in
-        record { stricter = subst (λ b. b.max_aliases ≤ s.budget.max_aliases) (sym r.budget) i.stricter; more = subst (λ k. up w.counts.aliases 1 ≤ k) (sym r.aliases) (omega (arith, i.more)) }
+        record { stricter = subst (λ b. b.max_aliases ≤ s.limits.budget.max_aliases) (sym r.budget) i.stricter; more = subst (λ k. up w.counts.aliases 1 ≤ k) (sym r.aliases) (omega (arith, i.more)) }
 
 ahead_event : (s : Score) (d p : ℕ) (w : Work) → Ahead s w → EventWays (Ahead s) Another s d p w
 ahead_event s d p w i = record { much = λ _ _. refl; again = λ _ _. writes (replayed_at w) j; once = λ _. writes w i }

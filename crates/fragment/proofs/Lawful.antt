@@ -51,7 +51,7 @@ unfolding unfolded
 accepted_is_the_unfolding s lawful n t c m passage e =
     let k = ok_went t (ran s n t c m) passage e in
     let u = all_written s n t c m k.work k.ending in
-    let x = counted_exactly s (range s n).first ((range s n).last + 1 - (range s n).first) (start t c m) k.work (bounds s.budget s.alias_limits lawful) refl refl refl u in
+    let x = counted_exactly s (range s n).first ((range s n).last + 1 - (range s n).first) (start t c m) k.work (bounds s.limits lawful) refl refl refl u in
     record {
       out = u.out;
       aliases = u.aliases;
@@ -145,13 +145,13 @@ first_ready : (s : Score) (t : List ℕ) (c : Charges) (m : Model) → Ready s (
 unfolding blank
 first_ready s t c m = record { long = length-replicate {A = ℕ} 256 0; light = omega arith }
 
-module _ (s : Score) (lawful : allowed s.budget s.alias_limits ≡ true) (k : ℕ) (sound : SoundNodes s.events k) (few : k ≤ 256) (n : ℕ) (one : 1 ≤ n) (t : List ℕ) (c : Charges) (m : Model) where
+module _ (s : Score) (lawful : allowed s.limits ≡ true) (k : ℕ) (sound : SoundNodes s.events k) (few : k ≤ 256) (n : ℕ) (one : 1 ≤ n) (t : List ℕ) (c : Charges) (m : Model) where
   only_within : IsAccepted s n t c m → UnfoldsWithin s n t c m
   unfolding unfolded
   only_within (passage, e) =
       let w = ok_went t (ran s n t c m) passage e in
       let u = all_written s n t c m w.work w.ending in
-      let r = run_done s (bounds s.budget s.alias_limits lawful) k sound few (shut (opened n blank)) (opened n blank) 1 (range s n) (start t c m) (omega arith) (first_ready s t c m) in
+      let r = run_done s (bounds s.limits lawful) k sound few (shut (opened n blank)) (opened n blank) 1 (range s n) (start t c m) (omega arith) (first_ready s t c m) in
       let done = subst (Ends (Done s 1 (range s n).first ((range s n).last + 1 - (range s n).first) (start t c m)) (λ _ _. Unit {0})) w.ending r in
       record { out = u.out; aliases = u.aliases; unfolds = u.unfolds; within = done_passes s 1 (range s n).first ((range s n).last + 1 - (range s n).first) (start t c m) w.work done u.out u.aliases u.unfolds }
 

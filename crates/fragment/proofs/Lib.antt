@@ -17,7 +17,6 @@ pub mod Slates
 pub mod SoundRoom
 pub mod Sources
 pub mod Steps
-pub mod Tapes
 pub mod Uniqueness
 pub mod Walks
 pub mod Within

@@ -1,14 +1,14 @@
 -- The steps of the call for a passage, and what its answer means.
-use Rattle.std.proofs.Common.{◌≡◌, ℕ, ◌+◌, ◌<◌, ◌≤◌, Bool, true, false, cond, not, ltb, List, [], ◌∷◌, ◌++◌, length, drop, replicate, is_some, Some, None, Ok, Err, Option, Result, sym, refl, ap, ◌∙◌, subst, arith}
-use Rattle.std.proofs.lemmas.List.{drop_at, length-replicate}
+use Rattle.std.proofs.Common.{◌≡◌, ℕ, ◌+◌, ◌<◌, ◌≤◌, Bool, true, false, cond, not, ltb, List, [], ◌∷◌, ◌++◌, length, drop, is_some, Some, None, Ok, Err, Option, Result, sym, refl, ap, ◌∙◌, subst, arith}
 use Rattle.std.proofs.lemmas.Bool.{le-ltb, lt-ltb}
 use Rattle.events.specs.declared.kinds.Rule.{Rule}
 use Rattle.events.specs.declared.score.Event.{Event}
 use Rattle.events.specs.declared.score.Piece.{Piece}
-use Rattle.events.specs.Checked.{Verdict, judged}
+use Rattle.events.specs.Checked.{PieceOfStock, unless_broken, verdict}
 use Rattle.events.specs.Rules.{first_broken, sound}
 use Rattle.events.specs.Scores.{Lists, events_of, marks_of}
-use Rattle.events.specs.Tables.{IsLast, last_named, or_else}
+use Rattle.events.specs.Tables.{IsLast, last_named}
+use Rattle.std.specs.Option.{option_or}
 use Rattle.events.proofs.SoundNodes.{kept, sound_pieces_have_nodes}
 use Rattle.events.proofs.Sizes.{sized, part_length}
 use Rattle.budget.specs.declared.breach.BudgetBreach.{BudgetBreach}
@@ -22,7 +22,7 @@ use Rattle.fragment.specs.Collection.{cause_at, cause_if, collected, first_cause
 use Rattle.fragment.specs.PassageLaws.{IsTarget, Knotted, Means}
 use Rattle.fragment.specs.Passages.{Wanted, Lent, Outcome, score_for, refusing, with_wiped, unfolding_leaves, from_target, from_soundness, passage_for}
 use Rattle.fragment.specs.Slate.{blank, wiped}
-use Rattle.fragment.specs.Unfolding.{Unfolded, unfolded}
+use Rattle.fragment.specs.Unfolding.{unfolded}
 use Rattle.fragment.proofs.CollectionTheorems.{accepted_exactly_if, one_last}
 use Rattle.fragment.proofs.Lawful.{accepted_is_the_unfolding, an_open_range_shows_a_knot, a_knot_is_never_accepted, a_refusal_leaves_the_tape}
 
@@ -32,11 +32,6 @@ target_within l p s name n t =
     let z = sized l p (kept l p s).sizes in
     (t.least, omega (arith, t.most, part_length p.marks l.marks z.marks_inside))
 
--- to wipe a slate again changes nothing
-pub wiped_again : (s : List ℕ) → wiped (wiped s) ≡ wiped s
-unfolding blank wiped
-wiped_again s = ap (λ (t : List ℕ). replicate 256 0 ++ t) (drop_at (replicate 256 0) (drop 256 s) 256 (length-replicate {A = ℕ} 256 0))
-
 -- collection tells of no open range
 
 abbrev NotOpen : FragmentError → Type 0
@@ -45,7 +40,7 @@ NotOpen e = (m : ℕ) → e ≡ OpenRange m → ⊥
 abbrev NoneOpen : Option FragmentError → Type 0
 NoneOpen o = (e : FragmentError) → o ≡ Some e → NotOpen e
 
-either_none : (a b : Option FragmentError) → NoneOpen a → NoneOpen b → NoneOpen (or_else a b)
+either_none : (a b : Option FragmentError) → NoneOpen a → NoneOpen b → NoneOpen (option_or a b)
 either_none None b f g e h = g e h
 either_none (Some x) b f g e h = f e h
 
@@ -61,8 +56,8 @@ second_not_open p m q = let z : ◌≡◌ {A = ℕ} 0 1 = cc in omega arith
 
 at_none : (b : Budget) (p : ℕ) (e : Event) (c : Collected) → NoneOpen (cause_at b p e c)
 at_none b p e c =
-    either_none (second_document p e c) (or_else (too_deep b e c) (or_else (too_many_bytes b c) (too_many_events b c))) (told_none _ (SecondDocument p) (second_not_open p))
-    (either_none (too_deep b e c) (or_else (too_many_bytes b c) (too_many_events b c)) (told_none _ (CollectionBreach (Depth c.depth)) (breach_not_open (Depth c.depth)))
+    either_none (second_document p e c) (option_or (too_deep b e c) (option_or (too_many_bytes b c) (too_many_events b c))) (told_none _ (SecondDocument p) (second_not_open p))
+    (either_none (too_deep b e c) (option_or (too_many_bytes b c) (too_many_events b c)) (told_none _ (CollectionBreach (Depth c.depth)) (breach_not_open (Depth c.depth)))
     (either_none (too_many_bytes b c) (too_many_events b c) (told_none _ (CollectionBreach (ScalarBytes c.bytes)) (breach_not_open (ScalarBytes c.bytes))) (told_none _ (CollectionBreach (Events c.events)) (breach_not_open (Events c.events)))))
 
 nothing_none : NoneOpen None
@@ -82,7 +77,7 @@ collected_none b l p name e h =
     let marks = too_many_marks b (length (marks_of l p)) in
     let all = first_cause b nothing (events_of l p) in
     let told = CollectionBreach (Anchors (b.max_anchors + 1)) in
-    target_none (or_else marks all) (last_named l.bytes name (marks_of l p)) e (either_none marks all (told_none _ told (breach_not_open (Anchors (b.max_anchors + 1)))) (first_none b nothing (events_of l p))) h
+    target_none (option_or marks all) (last_named l.bytes name (marks_of l p)) e (either_none marks all (told_none _ told (breach_not_open (Anchors (b.max_anchors + 1)))) (first_none b nothing (events_of l p))) h
 
 -- what an answer means
 
@@ -97,7 +92,7 @@ module _ (w : Wanted) where
         a_refusal_leaves_the_tape = λ f h. t;
       }
 
-  module _ (checked : allowed w.budget w.alias_limits ≡ true) (l k : Lent) (tape : k.tape ≡ l.tape) where
+  module _ (checked : allowed w.limits ≡ true) (l k : Lent) (tape : k.tape ≡ l.tape) where
     unfolding_means : (n : ℕ) → sound w.stock w.piece ≡ true → IsTarget w n → Means w k (unfolding_leaves k (unfolded (score_for w) n k.tape k.charges k.enforcer))
     unfolding_means n s t =
         let nodes = sound_pieces_have_nodes w.stock w.piece s in
@@ -109,13 +104,13 @@ module _ (w : Wanted) where
           a_refusal_leaves_the_tape = λ e h. a_refusal_leaves_the_tape (score_for w) n k.tape k.charges k.enforcer e h;
         }
 
-  target_means : (checked : allowed w.budget w.alias_limits ≡ true) → sound w.stock w.piece ≡ true → (k : Lent) (r : Result ℕ FragmentError) → collected w.budget w.stock w.piece w.name ≡ r → Means w k (from_target w r k)
-  target_means checked s k (Err e) h = refusing_means e (collected_none w.budget w.stock w.piece w.name e h) k k refl
+  target_means : (checked : allowed w.limits ≡ true) → sound w.stock w.piece ≡ true → (k : Lent) (r : Result ℕ FragmentError) → collected w.limits.budget w.stock w.piece w.name ≡ r → Means w k (from_target w r k)
+  target_means checked s k (Err e) h = refusing_means e (collected_none w.limits.budget w.stock w.piece w.name e h) k k refl
   target_means checked s k (Ok n) h =
-      let goes = (accepted_exactly_if w.budget w.stock w.piece w.name (Ok n) (sym h) n).0 refl in
+      let goes = (accepted_exactly_if w.limits.budget w.stock w.piece w.name (Ok n) (sym h) n).0 refl in
       unfolding_means checked k k refl n s goes.target
 
-  soundness_means : (checked : allowed w.budget w.alias_limits ≡ true) → (k : Lent) (o : Option Rule) → first_broken w.stock w.piece ≡ o → Means w k (from_soundness w o k)
+  soundness_means : (checked : allowed w.limits ≡ true) → (k : Lent) (o : Option Rule) → first_broken w.stock w.piece ≡ o → Means w k (from_soundness w o k)
   soundness_means checked k (Some r) h = refusing_means (Unsound r) (λ m q. let z : ◌≡◌ {A = ℕ} 0 1 = cc in omega arith) k k refl
   soundness_means checked k None h = target_means checked (ap (λ o. not (is_some o)) h) k _ refl
 
@@ -129,7 +124,7 @@ module _ (w : Wanted) where
         a_refusal_leaves_the_tape = m.a_refusal_leaves_the_tape;
       }
 
-  passage_means : allowed w.budget w.alias_limits ≡ true → (l : Lent) → Means w l (passage_for w l)
+  passage_means : allowed w.limits ≡ true → (l : Lent) → Means w l (passage_for w l)
   passage_means checked l = at (ltb (length l.slate) 256)
     where
       at : (b : Bool) → Means w l (cond b (refusing (ShortSlate (length l.slate)) l) (from_soundness w (first_broken w.stock w.piece) (with_wiped l)))
@@ -139,22 +134,36 @@ module _ (w : Wanted) where
 -- how the parts of the call make up the whole
 
 -- what the soundness check tells
-judged_sound : (l : Lists) (p : Piece) (o : Option Rule) (v : Verdict) → v ≡ judged l p o → v.broken ≡ None → (o ≡ None) × (v.stock ≡ l) × (v.piece ≡ p)
-judged_sound l p None v e h = (refl, ap (λ x. x.stock) e, ap (λ x. x.piece) e)
-judged_sound l p (Some r) v e h = let z : ◌≡◌ {A = ℕ} 0 1 = cc (sym (ap (λ x. x.broken) e) ∙ h) in absurd (omega arith)
+judged_sound : (l : Lists) (p : Piece) (o : Option Rule) (q : PieceOfStock) → Ok q ≡ unless_broken o (record { stock = l; piece = p }) → (o ≡ None) × (q.stock ≡ l) × (q.piece ≡ p)
+judged_sound l p None q e = let same : q ≡ record { stock = l; piece = p } = cc e in (refl, ap (λ x. x.stock) same, ap (λ x. x.piece) same)
+judged_sound l p (Some r) q e = let z : ◌≡◌ {A = ℕ} 0 1 = cc e in absurd (omega arith)
 
-judged_broken : (l : Lists) (p : Piece) (o : Option Rule) (v : Verdict) (r : Rule) → v ≡ judged l p o → v.broken ≡ Some r → o ≡ Some r
-judged_broken l p None v r e h = let z : ◌≡◌ {A = ℕ} 0 1 = cc (sym (ap (λ x. x.broken) e) ∙ h) in absurd (omega arith)
-judged_broken l p (Some q) v r e h = sym (ap (λ x. x.broken) e) ∙ h
+judged_broken : (x : PieceOfStock) (o : Option Rule) (r : Rule) → Err r ≡ unless_broken o x → o ≡ Some r
+judged_broken x None r e = let z : ◌≡◌ {A = ℕ} 0 1 = cc e in absurd (omega arith)
+judged_broken x (Some q) r e = let same : q ≡ r = cc e in ap Some same
 
-pub refused_by_collection : (w : Wanted) (k : Lent) (e : FragmentError) (r : Result ℕ FragmentError) → Err e ≡ r → refusing e k ≡ from_target w r k
-refused_by_collection w k e r q = ap (λ x. from_target w x k) q
+-- the slate plays no part in what is collected and unfolded
 
-pub unfolded_from_target : (w : Wanted) (k : Lent) (n : ℕ) (r : Result ℕ FragmentError) (u : Unfolded) (slate : List ℕ) → Ok n ≡ r → u ≡ unfolded (score_for w) n k.tape k.charges k.enforcer → slate ≡ k.slate → record { answer = u.answer; left = record { slate = slate; tape = u.tape; charges = u.charges; enforcer = u.enforcer } } ≡ from_target w r k
-unfolded_from_target w k n r u slate q h e =
-    ap (λ (s : List ℕ). record { answer = u.answer; left = record { slate = s; tape = u.tape; charges = u.charges; enforcer = u.enforcer } }) e
-    ∙ ap (unfolding_leaves k) h
-    ∙ ap (λ x. from_target w x k) q
+abbrev slated : List ℕ → Lent → Lent
+slated s l = record { slate = s; tape = l.tape; charges = l.charges; enforcer = l.enforcer }
+
+abbrev slated_by : List ℕ → Outcome → Outcome
+slated_by s o = record { answer = o.answer; left = slated s o.left }
+
+from_target_at : (w : Wanted) (s : List ℕ) (k : Lent) (r : Result ℕ FragmentError) → slated_by s (from_target w r k) ≡ from_target w r (slated s k)
+from_target_at w s k (Err e) = refl
+from_target_at w s k (Ok n) = refl
+
+-- what was unfolded with a closed slate z, seen with the whole slate that it is the front of
+pub at_whole_slate : (w : Wanted) (r : Result ℕ FragmentError) (k : Lent) (o : Outcome) (z s : List ℕ) → z ≡ blank → o ≡ from_target w r k → slated_by (z ++ drop 256 s) o ≡ from_target w r (slated (wiped s) k)
+unfolding wiped
+at_whole_slate w r k o z s closed h =
+    ap (λ t. slated_by (t ++ drop 256 s) o) closed ∙ ap (slated_by (blank ++ drop 256 s)) h ∙ from_target_at w (blank ++ drop 256 s) k r
+
+-- a closed front makes a slate wiped
+pub wiped_by : (z s : List ℕ) → z ≡ blank → z ++ drop 256 s ≡ wiped s
+unfolding wiped
+wiped_by z s closed = ap (λ (t : List ℕ). t ++ drop 256 s) closed
 
 module _ (w : Wanted) (l : Lent) where
   by_length : (b : Bool) → ltb (length l.slate) 256 ≡ b → cond b (refusing (ShortSlate (length l.slate)) l) (from_soundness w (first_broken w.stock w.piece) (with_wiped l)) ≡ passage_for w l
@@ -163,23 +172,21 @@ module _ (w : Wanted) (l : Lent) where
   pub short_slate : length l.slate < 256 → refusing (ShortSlate (length l.slate)) l ≡ passage_for w l
   short_slate h = by_length true (lt-ltb (length l.slate) 256 h)
 
-  module _ (long : 256 ≤ length l.slate) (v : Verdict) (told : v ≡ judged w.stock w.piece (first_broken w.stock w.piece)) (k : Lent) (wiping : k ≡ with_wiped l) where
-    from_soundness_lem : (o : Option Rule) → first_broken w.stock w.piece ≡ o → from_soundness w o k ≡ passage_for w l
+  module _ (long : 256 ≤ length l.slate) where
+    from_soundness_lem : (o : Option Rule) → first_broken w.stock w.piece ≡ o → from_soundness w o (with_wiped l) ≡ passage_for w l
     from_soundness_lem o h =
-        ap (from_soundness w o) wiping
-        ∙ ap (λ x. from_soundness w x (with_wiped l)) (sym h)
-        ∙ by_length false (le-ltb (length l.slate) 256 long)
+        ap (λ x. from_soundness w x (with_wiped l)) (sym h) ∙ by_length false (le-ltb (length l.slate) 256 long)
 
-    pub unsound_piece : (r : Rule) → v.broken ≡ Some r → refusing (Unsound r) k ≡ passage_for w l
-    unsound_piece r h = from_soundness_lem (Some r) (judged_broken w.stock w.piece _ v r told h)
+    pub unsound_piece : (r : Rule) → Err r ≡ verdict w.stock w.piece → refusing (Unsound r) (with_wiped l) ≡ passage_for w l
+    unsound_piece r h = from_soundness_lem (Some r) (judged_broken _ _ r h)
 
-    pub sound_piece : v.broken ≡ None → (o : Outcome) → o ≡ from_target (record { stock = v.stock; piece = v.piece; name = w.name; budget = w.budget; alias_limits = w.alias_limits }) (collected w.budget v.stock v.piece w.name) k → o ≡ passage_for w l
-    sound_piece h o e =
-        let j = judged_sound w.stock w.piece _ v told h in
+    pub sound_piece : (q : PieceOfStock) → Ok q ≡ verdict w.stock w.piece → (o : Outcome) → o ≡ from_target (record { stock = q.stock; piece = q.piece; name = w.name; limits = w.limits }) (collected w.limits.budget q.stock q.piece w.name) (with_wiped l) → o ≡ passage_for w l
+    sound_piece q h o e =
+        let j = judged_sound w.stock w.piece _ q h in
         e
-        ∙ ap (λ x. from_target (record { stock = x; piece = v.piece; name = w.name; budget = w.budget; alias_limits = w.alias_limits }) (collected w.budget x v.piece w.name) k) j.1
-        ∙ ap (λ y. from_target (record { stock = w.stock; piece = y; name = w.name; budget = w.budget; alias_limits = w.alias_limits }) (collected w.budget w.stock y w.name) k) j.2
+        ∙ ap (λ x. from_target (record { stock = x; piece = q.piece; name = w.name; limits = w.limits }) (collected w.limits.budget x q.piece w.name) (with_wiped l)) j.1
+        ∙ ap (λ y. from_target (record { stock = w.stock; piece = y; name = w.name; limits = w.limits }) (collected w.limits.budget w.stock y w.name) (with_wiped l)) j.2
         ∙ from_soundness_lem None j.0
 
-  pub means : allowed w.budget w.alias_limits ≡ true → (o : Outcome) → o ≡ passage_for w l → Means w l o
+  pub means : allowed w.limits ≡ true → (o : Outcome) → o ≡ passage_for w l → Means w l o
   means checked o e = subst (Means w l) (sym e) (passage_means w checked l)

@@ -82,8 +82,8 @@ record Part (s : Score) (d : ℕ) (v : Work) {p n : ℕ} {out : List ℕ} {a : �
 
 module _ (s : Score) (d : ℕ) (v : Work) {p n : ℕ} {out : List ℕ} {a : ℕ} (y : Unfolds s.events p n out a) (e : ℕ) (w : Work) {q m : ℕ} {all : List ℕ} {b : ℕ} (x : Unfolds s.events q m all b) (part : Part s d v y e w x) where
   breaks_more : (c : BudgetBreach) → Breaks s d v y c → Breaks s e w x c
-  breaks_more (Events k) h = beyond_more s.budget.max_events v.counts.written (length out) w.counts.written (length all) part.events part.written h
-  breaks_more (Aliases k) h = beyond_more s.budget.max_aliases v.counts.aliases a w.counts.aliases b part.replaced part.aliases h
+  breaks_more (Events k) h = beyond_more s.limits.budget.max_events v.counts.written (length out) w.counts.written (length all) part.events part.written h
+  breaks_more (Aliases k) h = beyond_more s.limits.budget.max_aliases v.counts.aliases a w.counts.aliases b part.replaced part.aliases h
   breaks_more (ScalarBytes k) h = omega (arith, h, part.bytes)
   breaks_more (Anchors k) h = h
   breaks_more (Depth k) h = h
@@ -97,9 +97,9 @@ module _ (s : Score) (d : ℕ) (v : Work) {p n : ℕ} {out : List ℕ} {a : ℕ}
   passes_more (UnfoldingBreach c) h = breaks_more c h
   passes_more (EnforcerBreach c) h = (omega (arith, h.0, part.replaced), part.breached c h.1)
   passes_more (Expansions k) h =
-      (h.0, h.1, beyond_more s.alias_limits.max_alias_expansions_per_anchor (get_or v.counts.expansions (h.0 - 1) 0) (openings y h.0) (get_or w.counts.expansions (h.0 - 1) 0) (openings x h.0) (part.often h.0 h.1) (part.expansions h.0 h.1) h.2)
-  passes_more (ReplayDepth k) h = beyond_more s.alias_limits.max_replay_stack_depth (d - 1) (deepest y) (e - 1) (deepest x) part.deep part.depth h
-  passes_more (ReplayedTotal k) h = beyond_more s.alias_limits.max_total_replayed_events v.counts.charged (replays d y) w.counts.charged (replays e x) part.repeats part.charged h
+      (h.0, h.1, beyond_more s.limits.alias_limits.max_alias_expansions_per_anchor (get_or v.counts.expansions (h.0 - 1) 0) (openings y h.0) (get_or w.counts.expansions (h.0 - 1) 0) (openings x h.0) (part.often h.0 h.1) (part.expansions h.0 h.1) h.2)
+  passes_more (ReplayDepth k) h = beyond_more s.limits.alias_limits.max_replay_stack_depth (d - 1) (deepest y) (e - 1) (deepest x) part.deep part.depth h
+  passes_more (ReplayedTotal k) h = beyond_more s.limits.alias_limits.max_total_replayed_events v.counts.charged (replays d y) w.counts.charged (replays e x) part.repeats part.charged h
   passes_more TapeFull h = beyond_more 8192 (length v.tape) (length out) (length w.tape) (length all) part.events part.tape h
   passes_more (OpenRange k) h = h
   passes_more (ShortSlate k) h = h
@@ -199,7 +199,7 @@ module _ (s : Score) (d p n : ℕ) (w : Work) where
       }
 
   module _ (other : AliasAt s.events p → ⊥) where
-    heavy_passes : {all : List ℕ} {b : ℕ} → s.budget.max_total_scalar_bytes < up w.counts.bytes (value_bytes (event_at s p)) → Unfolds s.events p (suc n) all b → s.budget.max_total_scalar_bytes < w.counts.bytes + values_at s.events all
+    heavy_passes : {all : List ℕ} {b : ℕ} → s.limits.budget.max_total_scalar_bytes < up w.counts.bytes (value_bytes (event_at s p)) → Unfolds s.events p (suc n) all b → s.limits.budget.max_total_scalar_bytes < w.counts.bytes + values_at s.events all
     unfolding values_at
     heavy_passes h (opens al i y) = absurd (other al)
     heavy_passes h (keeps _ y) = omega arith
@@ -208,7 +208,7 @@ module _ (s : Score) (d p n : ℕ) (w : Work) where
     long_passes limit q h (opens al i y) = absurd (other al)
     long_passes limit q h (keeps _ y) = (omega arith, omega arith)
 
-    much_passes : {all : List ℕ} {b : ℕ} → 1 < d → s.alias_limits.max_total_replayed_events < up w.counts.charged 1 → (x : Unfolds s.events p (suc n) all b) → Beyond s.alias_limits.max_total_replayed_events w.counts.charged (replays d x)
+    much_passes : {all : List ℕ} {b : ℕ} → 1 < d → s.limits.alias_limits.max_total_replayed_events < up w.counts.charged 1 → (x : Unfolds s.events p (suc n) all b) → Beyond s.limits.alias_limits.max_total_replayed_events w.counts.charged (replays d x)
     unfolding replays
     much_passes two h (opens al i y) = absurd (other al)
     much_passes two h (keeps _ y) = rw (lt-ltb 1 d two) (omega arith, omega arith)
@@ -225,7 +225,7 @@ module _ (s : Score) (d p n : ℕ) (w : Work) where
       writes c r h =
           record {
             heavy = λ l _ all b x. heavy_passes other l x;
-            long = λ l _ all b x. long_passes other s.budget.max_events w.counts.written (omega arith) x;
+            long = λ l _ all b x. long_passes other s.limits.budget.max_events w.counts.written (omega arith) x;
             full = λ l _ all b x. long_passes other 8192 (length w.tape) (omega arith) x;
             onward = λ _ _ _. event_peels other c r h;
           }
@@ -244,16 +244,16 @@ module _ (s : Score) (d p n : ℕ) (w : Work) (one : 1 ≤ d) (named : 1 ≤ nam
       let t = remembered c reference w.enforcer e in
       (omega arith, ap (λ (m : Model). m.report.breached) (stuck_run c (replicate (a + l) reference) (observed reference w.enforcer).0 t) ∙ t)
 
-  many_passes : {all : List ℕ} {b : ℕ} → s.budget.max_aliases < up w.counts.aliases 1 → (x : Unfolds s.events p (suc n) all b) → Beyond s.budget.max_aliases w.counts.aliases b
+  many_passes : {all : List ℕ} {b : ℕ} → s.limits.budget.max_aliases < up w.counts.aliases 1 → (x : Unfolds s.events p (suc n) all b) → Beyond s.limits.budget.max_aliases w.counts.aliases b
   many_passes h (keeps other y) = absurd (other al)
   many_passes h (opens _ i y) = (omega arith, omega arith)
 
-  often_passes : {all : List ℕ} {b : ℕ} → s.alias_limits.max_alias_expansions_per_anchor < up (get_or w.counts.expansions (names s.events p - 1) 0) 1 → (x : Unfolds s.events p (suc n) all b) → Beyond s.alias_limits.max_alias_expansions_per_anchor (get_or w.counts.expansions (names s.events p - 1) 0) (openings x (names s.events p))
+  often_passes : {all : List ℕ} {b : ℕ} → s.limits.alias_limits.max_alias_expansions_per_anchor < up (get_or w.counts.expansions (names s.events p - 1) 0) 1 → (x : Unfolds s.events p (suc n) all b) → Beyond s.limits.alias_limits.max_alias_expansions_per_anchor (get_or w.counts.expansions (names s.events p - 1) 0) (openings x (names s.events p))
   unfolding openings
   often_passes h (keeps other y) = absurd (other al)
   often_passes h (opens _ i y) = rw (eq-eqb (names s.events p) (names s.events p) refl) (omega arith, omega arith)
 
-  deep_passes : {all : List ℕ} {b : ℕ} → s.alias_limits.max_replay_stack_depth < d → (x : Unfolds s.events p (suc n) all b) → Beyond s.alias_limits.max_replay_stack_depth (d - 1) (deepest x)
+  deep_passes : {all : List ℕ} {b : ℕ} → s.limits.alias_limits.max_replay_stack_depth < d → (x : Unfolds s.events p (suc n) all b) → Beyond s.limits.alias_limits.max_replay_stack_depth (d - 1) (deepest x)
   unfolding deepest
   deep_passes h (keeps other y) = absurd (other al)
   deep_passes h (opens _ i y) = (omega arith, omega arith)

@@ -6,17 +6,17 @@ use Rattle.events.specs.declared.score.Piece.{Piece}
 use Rattle.events.specs.Kinds.{style_of}
 use Rattle.events.specs.Scores.{Lists, kind, within, marks_of, events_of, no_event}
 use Rattle.events.specs.Rules.{sound, event_fits}
-use Rattle.events.specs.Walks.{all}
+use Rattle.std.specs.List.{list_all}
 use Rattle.events.proofs.SoundNodes.{kept}
 use Rattle.events.proofs.Sizes.{sized, part_length}
 use Rattle.budget.specs.declared.limits.Budget.{Budget}
 use Rattle.fragment.specs.Room.{RoomForAll}
 use Rattle.fragment.specs.Unfolding.{is_scalar, value_bytes}
 
-all_at : {A : Type 0} (f : A → Bool) (d : A) (xs : List A) → all f xs ≡ true → (p : ℕ) → p < length xs → f (get_or xs p d) ≡ true
+all_at : {A : Type 0} (f : A → Bool) (d : A) (xs : List A) → list_all f xs ≡ true → (p : ℕ) → p < length xs → f (get_or xs p d) ≡ true
 all_at f d [] t p h = absurd (omega arith)
-all_at f d (x ∷ xs) t zero h = (and_parts (f x) (all f xs) t).0
-all_at f d (x ∷ xs) t (suc p) h = all_at f d xs (and_parts (f x) (all f xs) t).1 p (omega arith)
+all_at f d (x ∷ xs) t zero h = (and_parts (f x) (list_all f xs) t).0
+all_at f d (x ∷ xs) t (suc p) h = all_at f d xs (and_parts (f x) (list_all f xs) t).1 p (omega arith)
 
 value_le : (n : ℕ) (e : Event) → event_fits n e ≡ true → value_bytes e ≤ n
 value_le n e t =

@@ -5,12 +5,12 @@ use Rattle.events.specs.declared.score.Piece.{Piece}
 use Rattle.events.specs.declared.kinds.EventKind.{EventKind}
 use Rattle.events.specs.declared.kinds.EventKind.TheVariants.{StreamStart, StreamEnd, DocumentStart, DocumentEnd, Alias, Scalar, SequenceStart, SequenceEnd, MappingStart, MappingEnd}
 use Rattle.events.specs.Scores.{Lists, within, events_of, marks_of, kind, no_event}
-use Rattle.events.specs.Walks.{all}
+use Rattle.std.specs.List.{list_all}
 use Rattle.events.specs.Rules.{stock_fits, piece_fits, mark_fits, event_fits, is_alias, sound}
 use Rattle.events.specs.Nodes.{ranges_from}
 use Rattle.events.proofs.SoundNodes.{kept, searchable, sound_pieces_have_nodes}
 use Rattle.events.proofs.Sizes.{sized, part_length}
-use Rattle.fragment.specs.Sources.{Ranged, Readable}
+use Rattle.fragment.specs.Readable.{Ranged, Readable}
 
 alias_kind : (k : Option EventKind) → is_alias k ≡ true → k ≡ Some Alias
 alias_kind None t = absurd (both_ways false refl t)
@@ -29,7 +29,7 @@ module _ (l : Lists) (p : Piece) (ok : sound l p ≡ true) where
   few_in_stock : length l.events ≤ 65536
   few_in_stock =
       let n = length l.bytes in
-      let rest = piece_fits p && (within p.marks (length l.marks) && (within p.events (length l.events) && (all (mark_fits n) (marks_of l p) && all (event_fits n) (events_of l p)))) in
+      let rest = piece_fits p && (within p.marks (length l.marks) && (within p.events (length l.events) && (list_all (mark_fits n) (marks_of l p) && list_all (event_fits n) (events_of l p)))) in
       let a = and_parts (stock_fits l) rest (kept l p ok).sizes in
       let b = and_parts (leb n 1048576) (leb (length l.marks) 4096 && leb (length l.events) 65536) a.0 in
       let c = and_parts (leb (length l.marks) 4096) (leb (length l.events) 65536) b.1 in

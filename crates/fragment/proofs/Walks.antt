@@ -1,18 +1,14 @@
 -- One turn of the walk, in terms of the whole run.
 use Rattle.std.proofs.Common.{◌≡◌, ℕ, ◌+◌, ◌-◌, ◌<◌, ◌≤◌, true, false, List, length, get_or, set, sym, ap, ◌∙◌, arith}
-use Rattle.std.proofs.lemmas.List.{length-set, set-set, set-get_or}
-use Rattle.budget.specs.declared.enforcer.BudgetEnforcer.{BudgetEnforcer}
-use Rattle.budget.specs.View.{view}
+use Rattle.std.proofs.lemmas.List.{set-set, set-get_or}
 use Rattle.events.specs.declared.score.NodeRange.{NodeRange}
 use Rattle.fragment.specs.declared.answers.FragmentError.{FragmentError}
 use Rattle.fragment.specs.declared.source.Source.{Source}
-use Rattle.fragment.specs.declared.tally.Tally.{Tally}
-use Rattle.fragment.specs.declared.tape.Tape.{Tape}
 use Rattle.fragment.specs.Ended.{Ended, went, refused, next}
 use Rattle.fragment.specs.Slate.{opened}
 use Rattle.fragment.specs.Unfolding.{Score, Work, alias_step, each, event_step, is_alias_at, named_at, range, run, shut}
-use Rattle.fragment.specs.Sources.{Ranged, Reads, ranges_in, score_in}
-use Rattle.fragment.specs.View.{work}
+use Rattle.fragment.specs.Readable.{Ranged}
+use Rattle.fragment.specs.Sources.{score_in}
 use Rattle.fragment.proofs.Steps.{alias_shut, shut_set, go, run_each, each_none, each_more, event_ended, alias_refused, alias_went}
 
 -- what is left to do from place p gives what was to do from place first
@@ -39,13 +35,8 @@ pub put_back : (cur after : List ℕ) (i : ℕ) → get_or cur i 0 ≡ 0 → aft
 put_back cur after i z e =
     ap (λ t. set t i 0) e ∙ set-set cur i 1 0 ∙ ap (λ v. set cur i v) (sym z) ∙ set-get_or cur i 0
 
--- the work of a tape, a tally and an enforcer that are known
-pub work_is : (t t' : Tape) (y y' : Tally) (e e' : BudgetEnforcer) → t ≡ t' → y ≡ y' → e ≡ e' → work t' y' (view e') ≡ work t y (view e)
-work_is t t' y y' e e' p q r =
-    sym (ap (λ z. work z y (view e)) p ∙ ap (λ z. work t' z (view e)) q ∙ ap (λ z. work t' y' (view z)) r)
-
 -- the same in the code's terms: the slate is as it was when the range opened
-module _ (source : Source) (reads : Reads source) (slate : List ℕ) (long : length slate ≡ 256) (d : ℕ) (r : NodeRange) (inside : r.last < length source.events.now) (w₀ : Work) (p : ℕ) (cur : List ℕ) (w : Work) (inv : (cur ≡ slate) × Left (score_in source) slate d r.first (r.last + 1) w₀ p w) (h : p < r.last + 1) where
+module _ (source : Source) (slate : List ℕ) (long : length slate ≡ 256) (d : ℕ) (r : NodeRange) (inside : r.last < length source.events.now) (w₀ : Work) (p : ℕ) (cur : List ℕ) (w : Work) (inv : (cur ≡ slate) × Left (score_in source) slate d r.first (r.last + 1) w₀ p w) (h : p < r.last + 1) where
   abbrev s : Score
   s = score_in source
 
@@ -64,8 +55,8 @@ module _ (source : Source) (reads : Reads source) (slate : List ℕ) (long : len
 
   -- at an alias that passes the tests
   module _ (k : is_alias_at s p ≡ true) (v : Work) (q : went v ≡ alias_step s cur d n w) where
-    ranged : Ranged source.events.now (ranges_in source) n
-    ranged = reads.aliases p (omega arith) k
+    ranged : Ranged source.events.now source.nodes n
+    ranged = source.readable.aliases p (omega arith) k
 
     low : n - 1 < length cur
     low = omega (arith, ranged.least, ranged.most, ap length inv.0)
@@ -74,11 +65,11 @@ module _ (source : Source) (reads : Reads source) (slate : List ℕ) (long : len
     closed = alias_shut s cur d n w v q
 
     -- the range that it names may be walked
-    pub may_walk : (t : ℕ) → shut slate ≡ t → d + shut slate ≤ 256 → (named : NodeRange) → named ≡ range s n → (shut (opened n cur) < t) × (named.last < length source.events.now) × (length (opened n cur) ≡ 256) × (d + 1 + shut (opened n cur) ≤ 256)
+    pub may_walk : (t : ℕ) → shut slate ≡ t → d + shut slate ≤ 256 → (named : NodeRange) → named ≡ range s n → (shut (opened n cur) < t) × (named.last < length source.events.now) × (d + 1 + shut (opened n cur) ≤ 256)
     may_walk t m b named is =
         let o = shut_set cur (n - 1) low closed in
         let e = ap shut inv.0 in
-        (omega arith, rw is ranged.closes, length-set cur (n - 1) 1 ∙ ap length inv.0 ∙ long, omega arith)
+        (omega arith, rw is ranged.closes, omega arith)
 
     -- and its number is closed again
     pub closes_again : (after : List ℕ) → after ≡ opened n cur → set after (n - 1) 0 ≡ slate

@@ -49,19 +49,19 @@ room_beyond limit q k (inr a) b = omega (arith, b.1)
 
 -- what an unfolding takes is within every limit, where w is what there was before it and d ranges are open
 pub record Free (s : Score) (d : ℕ) (w : Work) {p n : ℕ} {out : List ℕ} {a : ℕ} (x : Unfolds s.events p n out a) : Type 0 where
-  events : Room s.budget.max_events w.counts.written (length out)
-  bytes : w.counts.bytes + values_at s.events out ≤ s.budget.max_total_scalar_bytes
-  aliases : Room s.budget.max_aliases w.counts.aliases a
-  replayed : Room s.alias_limits.max_total_replayed_events w.counts.charged (replays d x)
-  depth : Room s.alias_limits.max_replay_stack_depth (d - 1) (deepest x)
-  expansions : (k : ℕ) → 1 ≤ k → Room s.alias_limits.max_alias_expansions_per_anchor (get_or w.counts.expansions (k - 1) 0) (openings x k)
+  events : Room s.limits.budget.max_events w.counts.written (length out)
+  bytes : w.counts.bytes + values_at s.events out ≤ s.limits.budget.max_total_scalar_bytes
+  aliases : Room s.limits.budget.max_aliases w.counts.aliases a
+  replayed : Room s.limits.alias_limits.max_total_replayed_events w.counts.charged (replays d x)
+  depth : Room s.limits.alias_limits.max_replay_stack_depth (d - 1) (deepest x)
+  expansions : (k : ℕ) → 1 ≤ k → Room s.limits.alias_limits.max_alias_expansions_per_anchor (get_or w.counts.expansions (k - 1) 0) (openings x k)
   tape : Room 8192 (length w.tape) (length out)
   enforcer : (a ≡ 0) ⊎ ((observing (replicate a reference) w.enforcer).report.breached ≡ None)
 
 module _ (s : Score) (d : ℕ) (w : Work) {p n : ℕ} {out : List ℕ} {a : ℕ} (x : Unfolds s.events p n out a) (free : Free s d w x) where
   free_breaks : (b : BudgetBreach) → Breaks s d w x b → ⊥
-  free_breaks (Events k) h = room_beyond s.budget.max_events w.counts.written (length out) free.events h
-  free_breaks (Aliases k) h = room_beyond s.budget.max_aliases w.counts.aliases a free.aliases h
+  free_breaks (Events k) h = room_beyond s.limits.budget.max_events w.counts.written (length out) free.events h
+  free_breaks (Aliases k) h = room_beyond s.limits.budget.max_aliases w.counts.aliases a free.aliases h
   free_breaks (ScalarBytes k) h = omega (arith, h, free.bytes)
   free_breaks (Anchors k) h = h
   free_breaks (Depth k) h = h
@@ -78,9 +78,9 @@ module _ (s : Score) (d : ℕ) (w : Work) {p n : ℕ} {out : List ℕ} {a : ℕ}
   pub free_passes : (e : FragmentError) → Passes s d w x e → ⊥
   free_passes (UnfoldingBreach b) h = free_breaks b h
   free_passes (EnforcerBreach b) h = free_enforcer b free.enforcer h.0 h.1
-  free_passes (Expansions k) h = room_beyond s.alias_limits.max_alias_expansions_per_anchor (get_or w.counts.expansions (h.0 - 1) 0) (openings x h.0) (free.expansions h.0 h.1) h.2
-  free_passes (ReplayDepth k) h = room_beyond s.alias_limits.max_replay_stack_depth (d - 1) (deepest x) free.depth h
-  free_passes (ReplayedTotal k) h = room_beyond s.alias_limits.max_total_replayed_events w.counts.charged (replays d x) free.replayed h
+  free_passes (Expansions k) h = room_beyond s.limits.alias_limits.max_alias_expansions_per_anchor (get_or w.counts.expansions (h.0 - 1) 0) (openings x h.0) (free.expansions h.0 h.1) h.2
+  free_passes (ReplayDepth k) h = room_beyond s.limits.alias_limits.max_replay_stack_depth (d - 1) (deepest x) free.depth h
+  free_passes (ReplayedTotal k) h = room_beyond s.limits.alias_limits.max_total_replayed_events w.counts.charged (replays d x) free.replayed h
   free_passes TapeFull h = room_beyond 8192 (length w.tape) (length out) free.tape h
   free_passes (OpenRange k) h = h
   free_passes (ShortSlate k) h = h
@@ -102,7 +102,7 @@ record Grew (s : Score) (d : ℕ) (w v : Work) {p n : ℕ} {out : List ℕ} {a :
 -- 256 numbers may expand, and the bytes so far are within their limit
 pub record Ready (s : Score) (w : Work) : Type 0 where
   pub long : length w.counts.expansions ≡ 256
-  pub light : w.counts.bytes ≤ s.budget.max_total_scalar_bytes
+  pub light : w.counts.bytes ≤ s.limits.budget.max_total_scalar_bytes
 
 -- what a run leaves
 pub record Done (s : Score) (d p n : ℕ) (w v : Work) : Type 0 where
@@ -122,7 +122,7 @@ nothing_done s d p w ready = record { ready = ready; grew = grew; free = free }
 
 -- at an event
 
-module _ (s : Score) (d p n : ℕ) (w : Work) (b : Bounds s.budget s.alias_limits) (ready : Ready s w) (other : AliasAt s.events p → ⊥) (more c r : ℕ) (ticks : (t : ℕ) → tick (ltb 1 d) t ≡ more + t) (raised : c ≡ w.counts.charged + more) (room : Room s.alias_limits.max_total_replayed_events w.counts.charged more) (light : up w.counts.bytes (value_bytes (event_at s p)) ≤ s.budget.max_total_scalar_bytes) (short : up w.counts.written 1 ≤ s.budget.max_events) (fits : length w.tape < 8192) (v : Work) (done : Done s d (suc p) n (written_at s p (again w c r)) v) where
+module _ (s : Score) (d p n : ℕ) (w : Work) (b : Bounds s.limits.budget s.limits.alias_limits) (ready : Ready s w) (other : AliasAt s.events p → ⊥) (more c r : ℕ) (ticks : (t : ℕ) → tick (ltb 1 d) t ≡ more + t) (raised : c ≡ w.counts.charged + more) (room : Room s.limits.alias_limits.max_total_replayed_events w.counts.charged more) (light : up w.counts.bytes (value_bytes (event_at s p)) ≤ s.limits.budget.max_total_scalar_bytes) (short : up w.counts.written 1 ≤ s.limits.budget.max_events) (fits : length w.tape < 8192) (v : Work) (done : Done s d (suc p) n (written_at s p (again w c r)) v) where
   longer : length (w.tape ++ (s.base + p) ∷ []) ≡ length w.tape + 1
   longer = length-append w.tape ((s.base + p) ∷ [])
 
@@ -147,10 +147,10 @@ module _ (s : Score) (d p n : ℕ) (w : Work) (b : Bounds s.budget s.alias_limit
   event_free all l (keeps {out = out} {a = a} _ y) =
       let f = done.free out a y in
       record {
-        events = room_join s.budget.max_events w.counts.written 1 (up w.counts.written 1) (length out) (suc (length out)) (omega arith) (omega (arith, b.events)) (inr (omega (arith, b.events))) f.events;
+        events = room_join s.limits.budget.max_events w.counts.written 1 (up w.counts.written 1) (length out) (suc (length out)) (omega arith) (omega (arith, b.events)) (inr (omega (arith, b.events))) f.events;
         bytes = omega (arith, f.bytes, b.scalars);
         aliases = f.aliases;
-        replayed = room_join s.alias_limits.max_total_replayed_events w.counts.charged more c (replays d y) (tick (ltb 1 d) (replays d y)) (ticks (replays d y)) raised room f.replayed;
+        replayed = room_join s.limits.alias_limits.max_total_replayed_events w.counts.charged more c (replays d y) (tick (ltb 1 d) (replays d y)) (ticks (replays d y)) raised room f.replayed;
         depth = f.depth;
         expansions = f.expansions;
         tape = room_join 8192 (length w.tape) 1 (length (w.tape ++ (s.base + p) ∷ [])) (length out) (suc (length out)) (omega arith) longer (inr (omega arith)) f.tape;
@@ -197,9 +197,9 @@ clean_all a l m v first e i y = ap (λ (k : Model). k.report.breached) (observin
     rest (inl z) = ap (λ k. (observing (replicate k reference) v).report.breached) z ∙ ap (λ (k : Model). k.report.breached) e ∙ inner i
     rest (inr z) = z
 
-module _ (s : Score) (d p n : ℕ) (w : Work) (b : Bounds s.budget s.alias_limits) (one : 1 ≤ d) (named : 1 ≤ names s.events p) (small : names s.events p - 1 < length w.counts.expansions) (al : AliasAt s.events p) (m : Model) (now : m ≡ (observed reference w.enforcer).0) (ok : (observed reference w.enforcer).1 ≡ Ok tt) (few : up w.counts.aliases 1 ≤ s.budget.max_aliases) (often : up (get_or w.counts.expansions (names s.events p - 1) 0) 1 ≤ s.alias_limits.max_alias_expansions_per_anchor) (deep : d ≤ s.alias_limits.max_replay_stack_depth) (u v : Work) (inner-done : Done s (d + 1) (from s.events (names s.events p)) (size s.events (names s.events p)) (expanded_at (names s.events p) w m) u) (done : Done s d (suc p) n u v) where
+module _ (s : Score) (d p n : ℕ) (w : Work) (b : Bounds s.limits.budget s.limits.alias_limits) (one : 1 ≤ d) (named : 1 ≤ names s.events p) (small : names s.events p - 1 < length w.counts.expansions) (al : AliasAt s.events p) (m : Model) (now : m ≡ (observed reference w.enforcer).0) (ok : (observed reference w.enforcer).1 ≡ Ok tt) (few : up w.counts.aliases 1 ≤ s.limits.budget.max_aliases) (often : up (get_or w.counts.expansions (names s.events p - 1) 0) 1 ≤ s.limits.alias_limits.max_alias_expansions_per_anchor) (deep : d ≤ s.limits.alias_limits.max_replay_stack_depth) (u v : Work) (inner-done : Done s (d + 1) (from s.events (names s.events p)) (size s.events (names s.events p)) (expanded_at (names s.events p) w m) u) (done : Done s d (suc p) n u v) where
   expanded_is : (k : ℕ) → 1 ≤ k → get_or (expanded_at (names s.events p) w m).counts.expansions (k - 1) 0 ≡ get_or w.counts.expansions (k - 1) 0 + tick (eqb (names s.events p) k) 0
-  expanded_is k h = exact_openings w.counts.expansions (names s.events p) k s.alias_limits.max_alias_expansions_per_anchor named h small often b.expansions
+  expanded_is k h = exact_openings w.counts.expansions (names s.events p) k s.limits.alias_limits.max_alias_expansions_per_anchor named h small often b.expansions
 
   clean : m.report.breached ≡ None
   clean = ap (λ (k : Model). k.report.breached) now ∙ (referred w.enforcer ok).clean ∙ (counted_well reference w.enforcer ok).2
@@ -233,18 +233,18 @@ module _ (s : Score) (d p n : ℕ) (w : Work) (b : Bounds s.budget s.alias_limit
       let val = values_append s.events inner out in
       let rep = replays_all (d + 1) (omega arith) i in
       record {
-        events = room_join s.budget.max_events w.counts.written (length inner) u.counts.written (length out) (length (inner ++ out)) (length-append inner out) g.written f.events h.events;
+        events = room_join s.limits.budget.max_events w.counts.written (length inner) u.counts.written (length out) (length (inner ++ out)) (length-append inner out) g.written f.events h.events;
         bytes = omega (arith, g.bytes, h.bytes);
-        aliases = room_join s.budget.max_aliases w.counts.aliases (suc a) u.counts.aliases l (suc (a + l)) (omega arith) (omega (arith, g.aliases, b.aliases)) (room_join s.budget.max_aliases w.counts.aliases 1 (up w.counts.aliases 1) a (suc a) (omega arith) (omega (arith, b.aliases)) (inr (omega (arith, b.aliases))) f.aliases) h.aliases;
-        replayed = room_join s.alias_limits.max_total_replayed_events w.counts.charged (length inner) u.counts.charged (replays d y) (length inner + replays d y) refl (omega (arith, g.charged)) (subst (Room s.alias_limits.max_total_replayed_events w.counts.charged) rep f.replayed) h.replayed;
-        depth = room_deep s.alias_limits.max_replay_stack_depth d (deepest i) (deepest y) one deep f.depth h.depth;
+        aliases = room_join s.limits.budget.max_aliases w.counts.aliases (suc a) u.counts.aliases l (suc (a + l)) (omega arith) (omega (arith, g.aliases, b.aliases)) (room_join s.limits.budget.max_aliases w.counts.aliases 1 (up w.counts.aliases 1) a (suc a) (omega arith) (omega (arith, b.aliases)) (inr (omega (arith, b.aliases))) f.aliases) h.aliases;
+        replayed = room_join s.limits.alias_limits.max_total_replayed_events w.counts.charged (length inner) u.counts.charged (replays d y) (length inner + replays d y) refl (omega (arith, g.charged)) (subst (Room s.limits.alias_limits.max_total_replayed_events w.counts.charged) rep f.replayed) h.replayed;
+        depth = room_deep s.limits.alias_limits.max_replay_stack_depth d (deepest i) (deepest y) one deep f.depth h.depth;
         expansions = λ k e. opened k e (openings i k) (openings y k) (f.expansions k e) (h.expansions k e) (g.expansions k e);
         tape = room_join 8192 (length w.tape) (length inner) (length u.tape) (length out) (length (inner ++ out)) (length-append inner out) g.tape f.tape h.tape;
         enforcer = inr (ap (λ (k : Model). (observing (replicate (a + l) reference) k).report.breached) (sym now) ∙ clean_all a l m u.enforcer clean g.enforcer f.enforcer h.enforcer);
       }
     where
       limit : ℕ
-      limit = s.alias_limits.max_alias_expansions_per_anchor
+      limit = s.limits.alias_limits.max_alias_expansions_per_anchor
 
       opened : (k : ℕ) → 1 ≤ k → (i y : ℕ) → Room limit (get_or (expanded_at (names s.events p) w m).counts.expansions (k - 1) 0) i → Room limit (get_or u.counts.expansions (k - 1) 0) y → get_or u.counts.expansions (k - 1) 0 ≡ get_or (expanded_at (names s.events p) w m).counts.expansions (k - 1) 0 + i → Room limit (get_or w.counts.expansions (k - 1) 0) (tick (eqb (names s.events p) k) (i + y))
       opened k e i y r q g =
@@ -263,7 +263,7 @@ Leads s d p w u = Ready s u × ((n : ℕ) (v : Work) → Done s d (suc p) n u v 
 abbrev pub Good : Score → Opens → Type 0
 Good s o = (slate : List ℕ) (d : ℕ) (r : NodeRange) (w : Work) → 1 ≤ d → Ready s w → Ends (Done s d r.first (r.last + 1 - r.first) w) Any (o slate d r w)
 
-module _ (s : Score) (b : Bounds s.budget s.alias_limits) (count : ℕ) (sound : SoundNodes s.events count) (most : count ≤ 256) where
+module _ (s : Score) (b : Bounds s.limits.budget s.limits.alias_limits) (count : ℕ) (sound : SoundNodes s.events count) (most : count ≤ 256) where
   module _ (o : Opens) (good : Good s o) (slate : List ℕ) (d : ℕ) (one : 1 ≤ d) where
     step_done : (p : ℕ) (w : Work) → Ready s w → Ends (Leads s d p w) Any (step s o slate d p w)
     step_done p w ready = step_ends (Leads s d p w) Any s o slate d p w (λ x. enter (alias_is (kind (event_at s p)) x)) (λ x. write (other_is (kind (event_at s p)) x))
@@ -286,7 +286,7 @@ module _ (s : Score) (b : Bounds s.budget s.alias_limits) (count : ℕ) (sound :
               onward = λ m now ok _ few often deep. ends_map (Done s (d + 1) (range s a).first ((range s a).last + 1 - (range s a).first) (expanded_at a w m)) (Leads s d p w) Any Any (enters s o slate d p (expanded_at a w m)) (λ u inner. (inner.ready, λ n v done. alias_done s d p n w b one h.least (omega (arith, h.least, h.most, ready.long)) al m now ok few often deep u v inner done)) (λ _ _ x. x) (good (opened a slate) (d + 1) (range s a) (expanded_at a w m) (omega arith) (ready_inside m));
             }
 
-        writes : (AliasAt s.events p → ⊥) → (more c r : ℕ) → ((t : ℕ) → tick (ltb 1 d) t ≡ more + t) → c ≡ w.counts.charged + more → Room s.alias_limits.max_total_replayed_events w.counts.charged more → WriteWays (Leads s d p w) Any s p (again w c r)
+        writes : (AliasAt s.events p → ⊥) → (more c r : ℕ) → ((t : ℕ) → tick (ltb 1 d) t ≡ more + t) → c ≡ w.counts.charged + more → Room s.limits.alias_limits.max_total_replayed_events w.counts.charged more → WriteWays (Leads s d p w) Any s p (again w c r)
         writes other more c r ticks raised room =
             record { heavy = λ _. tt; long = λ _. tt; full = λ _. tt; onward = λ light short fits. (record { long = ready.long; light = light }, λ n v done. event_done s d p n w b ready other more c r ticks raised room light short fits v done) }
 

@@ -6,7 +6,8 @@ use Rattle.events.specs.declared.kinds.EventKind.{EventKind}
 use Rattle.events.specs.declared.kinds.EventKind.TheVariants.{StreamStart, StreamEnd, DocumentStart, DocumentEnd, Alias, Scalar, SequenceStart, SequenceEnd, MappingStart, MappingEnd}
 use Rattle.events.specs.Scores.{Lists, kind, marks_of, events_of}
 use Rattle.events.specs.Nodes.{deeper}
-use Rattle.events.specs.Tables.{or_else, last_named}
+use Rattle.events.specs.Tables.{last_named}
+use Rattle.std.specs.Option.{option_or}
 use Rattle.budget.specs.declared.limits.Budget.{Budget}
 use Rattle.budget.specs.declared.breach.BudgetBreach.TheVariants.{Anchors, Depth, Events, ScalarBytes}
 use Rattle.fragment.specs.declared.answers.FragmentError.{FragmentError}
@@ -76,12 +77,12 @@ too_many_events b c = cause_if (nat_lt b.max_events c.events) (CollectionBreach 
 
 -- the first of them
 abbrev pub cause_at : Budget → ℕ → Event → Collected → Option FragmentError
-cause_at b p e c = or_else (second_document p e c) (or_else (too_deep b e c) (or_else (too_many_bytes b c) (too_many_events b c)))
+cause_at b p e c = option_or (second_document p e c) (option_or (too_deep b e c) (option_or (too_many_bytes b c) (too_many_events b c)))
 
 -- the first cause in events that stand behind those counted; an event's place is the number of events before it
 abbrev pub first_cause : Budget → Collected → List Event → Option FragmentError
 first_cause b c [] = None
-first_cause b c (e ∷ es) = or_else (cause_at b c.events e (with_event e c)) (first_cause b (with_event e c) es)
+first_cause b c (e ∷ es) = option_or (cause_at b c.events e (with_event e c)) (first_cause b (with_event e c) es)
 
 -- the marks
 abbrev pub too_many_marks : Budget → ℕ → Option FragmentError
@@ -101,4 +102,4 @@ target_unless None (Some n) = Ok n
 -- first the marks, then the events in order, then the last mark of the name
 abbrev pub collected : Budget → Lists → Piece → List ℕ → Result ℕ FragmentError
 collected b l p name =
-    target_unless (or_else (too_many_marks b (length (marks_of l p))) (first_cause b nothing (events_of l p))) (last_named l.bytes name (marks_of l p))
+    target_unless (option_or (too_many_marks b (length (marks_of l p))) (first_cause b nothing (events_of l p))) (last_named l.bytes name (marks_of l p))

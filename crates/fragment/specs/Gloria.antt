@@ -97,7 +97,7 @@ node a b = record { first = a; last = b }
 -- limits as they are where nothing else is wanted, but for those of aliases
 
 abbrev pub score : Piece → AliasLimits → Score
-score p l = record { events = events_of stock p; base = p.events.start; budget = standard_budget; alias_limits = l }
+score p l = record { events = events_of stock p; base = p.events.start; limits = record { budget = standard_budget; alias_limits = l } }
 
 abbrev pub replaying : ℕ → AliasLimits
 replaying n = record { max_total_replayed_events = n; max_replay_stack_depth = 64; max_alias_expansions_per_anchor = 2 ^ 30 }

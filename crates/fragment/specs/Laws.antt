@@ -40,7 +40,7 @@ pub record IsTheUnfolding (s : Score) (n : ℕ) (t : List ℕ) (c : Charges) (m 
   pub enforcer : u.enforcer ≡ run (replicate aliases reference) m
 
 abbrev pub AcceptedIsTheUnfolding : Type 0
-AcceptedIsTheUnfolding = (s : Score) → allowed s.budget s.alias_limits ≡ true → (n : ℕ) (t : List ℕ) (c : Charges) (m : Model) (passage : Passage) → (unfolded s n t c m).answer ≡ Ok passage → IsTheUnfolding s n t c m (unfolded s n t c m) passage
+AcceptedIsTheUnfolding = (s : Score) → allowed s.limits ≡ true → (n : ℕ) (t : List ℕ) (c : Charges) (m : Model) (passage : Passage) → (unfolded s n t c m).answer ≡ Ok passage → IsTheUnfolding s n t c m (unfolded s n t c m) passage
 
 -- a run of events has one unfolding at most
 abbrev pub TheUnfoldingIsUnique : Type 0
@@ -64,7 +64,7 @@ TheTapeOnlyGrows = (s : Score) (n : ℕ) (t : List ℕ) (c : Charges) (m : Model
 
 -- an enforcer that has counted no fewer aliases than were charged, and allows no more, answers before the alias charge is judged
 abbrev pub TheEnforcerAnswersBeforeTheAliasCharge : Type 0
-TheEnforcerAnswersBeforeTheAliasCharge = (s : Score) (n : ℕ) (t : List ℕ) (c : Charges) (m : Model) → m.budget.max_aliases ≤ s.budget.max_aliases → c.aliases ≤ m.report.aliases → (x : ℕ) → (unfolded s n t c m).answer ≢ Err (UnfoldingBreach (Aliases x))
+TheEnforcerAnswersBeforeTheAliasCharge = (s : Score) (n : ℕ) (t : List ℕ) (c : Charges) (m : Model) → m.budget.max_aliases ≤ s.limits.budget.max_aliases → c.aliases ≤ m.report.aliases → (x : ℕ) → (unfolded s n t c m).answer ≢ Err (UnfoldingBreach (Aliases x))
 
 -- a breach of unfolding tells a count above its limit; no other limits are judged
 abbrev pub Above : Budget → BudgetBreach → Type 0
@@ -82,11 +82,11 @@ Above b SequenceUnbalanced = ⊥
 -- what a refusal tells: a count above its limit, or the breach that the enforcer, left as it is, remembers;
 -- of open ranges and of a full tape other laws tell; for anything else an unfolding is not refused
 abbrev pub Cause : Score → Model → FragmentError → Type 0
-Cause s m (UnfoldingBreach b) = Above s.budget b
+Cause s m (UnfoldingBreach b) = Above s.limits.budget b
 Cause s m (EnforcerBreach b) = m.report.breached ≡ Some b
-Cause s m (Expansions n) = s.alias_limits.max_alias_expansions_per_anchor < n
-Cause s m (ReplayDepth d) = s.alias_limits.max_replay_stack_depth < d
-Cause s m (ReplayedTotal n) = s.alias_limits.max_total_replayed_events < n
+Cause s m (Expansions n) = s.limits.alias_limits.max_alias_expansions_per_anchor < n
+Cause s m (ReplayDepth d) = s.limits.alias_limits.max_replay_stack_depth < d
+Cause s m (ReplayedTotal n) = s.limits.alias_limits.max_total_replayed_events < n
 Cause s m (OpenRange n) = Unit {0}
 Cause s m TapeFull = Unit {0}
 Cause s m (ShortSlate n) = ⊥
@@ -118,7 +118,7 @@ IsAccepted s n t c m = (passage : Passage) × ((unfolded s n t c m).answer ≡ O
 
 -- exactly those targets are accepted
 abbrev pub AcceptedExactlyIfItUnfoldsWithinTheLimits : Type 0
-AcceptedExactlyIfItUnfoldsWithinTheLimits = (s : Score) → allowed s.budget s.alias_limits ≡ true → (k : ℕ) → SoundNodes s.events k → k ≤ 256 → (n : ℕ) → 1 ≤ n → (t : List ℕ) (c : Charges) (m : Model) → (IsAccepted s n t c m → UnfoldsWithin s n t c m) × (UnfoldsWithin s n t c m → IsAccepted s n t c m)
+AcceptedExactlyIfItUnfoldsWithinTheLimits = (s : Score) → allowed s.limits ≡ true → (k : ℕ) → SoundNodes s.events k → k ≤ 256 → (n : ℕ) → 1 ≤ n → (t : List ℕ) (c : Charges) (m : Model) → (IsAccepted s n t c m → UnfoldsWithin s n t c m) × (UnfoldsWithin s n t c m → IsAccepted s n t c m)
 
 -- the laws that speak of no one call
 pub record LawsOfUnfolding : Type 0 where

@@ -6,7 +6,9 @@ pub mod Laws
 pub mod PassageLaws
 pub mod PassageView
 pub mod Passages
+pub mod Handed
 pub mod Passing
+pub mod Readable
 pub mod Refusals
 pub mod Relation
 pub mod Room

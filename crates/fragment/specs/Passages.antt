@@ -4,8 +4,7 @@ use Rattle.events.specs.declared.kinds.Rule.{Rule}
 use Rattle.events.specs.declared.score.Piece.{Piece}
 use Rattle.events.specs.Rules.{first_broken}
 use Rattle.events.specs.Scores.{Lists, events_of}
-use Rattle.budget.specs.declared.limits.AliasLimits.{AliasLimits}
-use Rattle.budget.specs.declared.limits.Budget.{Budget}
+use Rattle.budget.specs.declared.limits.Limits.{Limits}
 use Rattle.budget.specs.Model.{Model}
 use Rattle.fragment.specs.declared.answers.Charges.{Charges}
 use Rattle.fragment.specs.declared.answers.FragmentError.{FragmentError}
@@ -20,11 +19,10 @@ pub record Wanted : Type 0 where
   pub stock : Lists
   pub piece : Piece
   pub name : List ℕ
-  pub budget : Budget
-  pub alias_limits : AliasLimits
+  pub limits : Limits
 
 abbrev pub score_for : Wanted → Score
-score_for w = record { events = events_of w.stock w.piece; base = w.piece.events.start; budget = w.budget; alias_limits = w.alias_limits }
+score_for w = record { events = events_of w.stock w.piece; base = w.piece.events.start; limits = w.limits }
 
 -- what the caller lends: the slate, the tape as far as it is written, the charges, and the enforcer
 pub record Lent : Type 0 where
@@ -53,7 +51,7 @@ from_target w (Ok n) l = unfolding_leaves l (unfolded (score_for w) n l.tape l.c
 
 abbrev pub from_soundness : Wanted → Option Rule → Lent → Outcome
 from_soundness w (Some r) l = refusing (Unsound r) l
-from_soundness w None l = from_target w (collected w.budget w.stock w.piece w.name) l
+from_soundness w None l = from_target w (collected w.limits.budget w.stock w.piece w.name) l
 
 -- a slate of fewer than 256 bytes is refused with all as it was; from there on its first 256 bytes are 0
 abbrev pub passage_for : Wanted → Lent → Outcome

@@ -41,9 +41,9 @@ Beyond limit q k = (1 ≤ k) × (limit < q + k)
 -- an unfolding passes the limit that a refusal is for, where w is what there was before it and d ranges are open
 module _ (s : Score) (d : ℕ) (w : Work) {p n : ℕ} {out : List ℕ} {a : ℕ} (u : Unfolds s.events p n out a) where
   abbrev pub Breaks : BudgetBreach → Type 0
-  Breaks (Events _) = Beyond s.budget.max_events w.counts.written (length out)
-  Breaks (Aliases _) = Beyond s.budget.max_aliases w.counts.aliases a
-  Breaks (ScalarBytes _) = s.budget.max_total_scalar_bytes < w.counts.bytes + values_at s.events out
+  Breaks (Events _) = Beyond s.limits.budget.max_events w.counts.written (length out)
+  Breaks (Aliases _) = Beyond s.limits.budget.max_aliases w.counts.aliases a
+  Breaks (ScalarBytes _) = s.limits.budget.max_total_scalar_bytes < w.counts.bytes + values_at s.events out
   Breaks (Anchors _) = ⊥
   Breaks (Depth _) = ⊥
   Breaks (Documents _) = ⊥
@@ -55,9 +55,9 @@ module _ (s : Score) (d : ℕ) (w : Work) {p n : ℕ} {out : List ℕ} {a : ℕ}
   abbrev pub Passes : FragmentError → Type 0
   Passes (UnfoldingBreach b) = Breaks b
   Passes (EnforcerBreach b) = (1 ≤ a) × ((run (replicate a reference) w.enforcer).report.breached ≡ Some b)
-  Passes (Expansions _) = (k : ℕ) × (1 ≤ k) × Beyond s.alias_limits.max_alias_expansions_per_anchor (slice_index w.counts.expansions (k - 1)) (openings u k)
-  Passes (ReplayDepth _) = Beyond s.alias_limits.max_replay_stack_depth (d - 1) (deepest u)
-  Passes (ReplayedTotal _) = Beyond s.alias_limits.max_total_replayed_events w.counts.charged (replays d u)
+  Passes (Expansions _) = (k : ℕ) × (1 ≤ k) × Beyond s.limits.alias_limits.max_alias_expansions_per_anchor (slice_index w.counts.expansions (k - 1)) (openings u k)
+  Passes (ReplayDepth _) = Beyond s.limits.alias_limits.max_replay_stack_depth (d - 1) (deepest u)
+  Passes (ReplayedTotal _) = Beyond s.limits.alias_limits.max_total_replayed_events w.counts.charged (replays d u)
   Passes TapeFull = Beyond 8192 (length w.tape) (length out)
   Passes (OpenRange _) = ⊥
   Passes (ShortSlate _) = ⊥

@@ -5,10 +5,12 @@ use Rattle.events.specs.declared.score.NodeRange.{NodeRange}
 use Rattle.events.specs.declared.kinds.EventKind.{EventKind}
 use Rattle.events.specs.declared.kinds.EventKind.TheVariants.{StreamStart, StreamEnd, DocumentStart, DocumentEnd, Alias, Scalar, SequenceStart, SequenceEnd, MappingStart, MappingEnd}
 use Rattle.events.specs.Scores.{kind, no_event}
+use Rattle.std.specs.Bool.{then_some}
 use Rattle.events.specs.Nodes.{range_of}
 use Rattle.events.specs.Rules.{is_alias}
 use Rattle.budget.specs.declared.limits.Budget.{Budget}
 use Rattle.budget.specs.declared.limits.AliasLimits.{AliasLimits}
+use Rattle.budget.specs.declared.limits.Limits.{Limits}
 use Rattle.budget.specs.declared.breach.BudgetBreach.TheVariants.{Events, Aliases, ScalarBytes}
 use Rattle.budget.specs.Counts.{up}
 use Rattle.budget.specs.Model.{Model, Outcome, observed}
@@ -24,8 +26,7 @@ use Rattle.fragment.specs.Slate.{blank, opened}
 pub record Score : Type 0 where
   pub events : List Event
   pub base : ℕ
-  pub budget : Budget
-  pub alias_limits : AliasLimits
+  pub limits : Limits
 
 abbrev pub event_at : Score → ℕ → Event
 event_at s p = slice_index_or s.events p no_event
@@ -108,7 +109,7 @@ judge_depth l d w = cond (nat_lt l.max_replay_stack_depth d) (refused (ReplayDep
 -- the tests at an alias to number n, with d ranges open
 abbrev pub alias_step : Score → List ℕ → ℕ → ℕ → Work → Ended Work
 alias_step s slate d n w =
-    next (try_closed slate n w) (λ v. next (charge_alias v) (λ v. next (refer v) (λ v. next (judge_aliases s.budget v) (λ v. next (expand s.alias_limits n v) (judge_depth s.alias_limits d)))))
+    next (try_closed slate n w) (λ v. next (charge_alias v) (λ v. next (refer v) (λ v. next (judge_aliases s.limits.budget v) (λ v. next (expand s.limits.alias_limits n v) (judge_depth s.limits.alias_limits d)))))
 
 -- at another event
 
@@ -161,13 +162,17 @@ count_event b w =
 abbrev pub pushed : ℕ → List ℕ → Ended (List ℕ)
 pushed p t = cond (nat_lt (length t) 8192) (went (t ++ p ∷ [])) (refused TapeFull t)
 
+-- what is written at an index of a tape, if something is
+abbrev pub place_at : List ℕ → ℕ → Option ℕ
+place_at t i = then_some (nat_lt i (length t)) (slice_index t i)
+
 abbrev pub write : ℕ → Work → Ended Work
 write p w = within (with_tape w) (pushed p w.tape)
 
 -- the tests at an event at place p, with d ranges open
 abbrev pub event_step : Score → ℕ → ℕ → Work → Ended Work
 event_step s d p w =
-    next (replay s.alias_limits d w) (λ v. next (weigh s.budget (event_at s p) v) (λ v. next (count_event s.budget v) (write (s.base + p))))
+    next (replay s.limits.alias_limits d w) (λ v. next (weigh s.limits.budget (event_at s p) v) (λ v. next (count_event s.limits.budget v) (write (s.base + p))))
 
 -- ranges
 

@@ -1,20 +1,23 @@
 //! What the unfolding of a passage answers.
 ghost use Rattle.std.specs.Prelude.{◌≡◌};
 ghost use Rattle.fragment.specs.Refusals.{error_layer, error_number};
+ghost use Rattle.fragment.specs.declared.answers.FragmentError.TheVariants.{Unsound as unsound};
 
 use budget::breach::BudgetBreach;
 use events::kinds::Rule;
 use refusals::Layer;
+use std::error::Error;
+use std::fmt;
 
 /// What was charged for inserts so far: aliases that were replaced, and events that were replayed for them.
-#[derive(Clone, Copy)]
+#[derive(Clone, Copy, Debug, PartialEq, Eq)]
 pub struct Charges {
     pub aliases: u32,
     pub replayed: u32,
 }
 
 /// A passage that was unfolded: how many events it has, how many aliases were replaced, and how many of the events were replayed for them.
-#[derive(Clone, Copy)]
+#[derive(Clone, Copy, Debug, PartialEq, Eq)]
 pub struct Passage {
     pub events: u32,
     pub aliases: u32,
@@ -22,7 +25,7 @@ pub struct Passage {
 }
 
 /// Why a passage is refused.
-#[derive(Clone, Copy)]
+#[derive(Clone, Copy, Debug, PartialEq, Eq)]
 pub enum FragmentError {
     /// The slate has fewer than 256 bytes: its length.
     ShortSlate { length: u32 },
@@ -50,12 +53,59 @@ pub enum FragmentError {
     TapeFull,
 }
 
-impl FragmentError {
-    /// The number of the refusal.
-    pub fn number(self) -> u32
-        ensures is_the_number_of_the_refusal { result ≡ error_number self }
-    {
+impl fmt::Display for FragmentError {
+    fn fmt<W: fmt::Write>(&self, f: &mut fmt::Formatter<W>) -> fmt::Result {
         match self {
+            FragmentError::ShortSlate { length } => write!(
+                f,
+                "a slate of {length} bytes is too short"
+            ),
+            FragmentError::Unsound(rule) => write!(f, "{rule}"),
+            FragmentError::CollectionBreach(breach)
+            | FragmentError::UnfoldingBreach(breach)
+            | FragmentError::EnforcerBreach(breach) => write!(f, "{breach}"),
+            FragmentError::SecondDocument { place } => write!(
+                f,
+                "a second document starts at place {place}"
+            ),
+            FragmentError::UnmarkedTarget => f.write_str("no mark has this name"),
+            FragmentError::OpenRange { number } => write!(
+                f,
+                "an alias names number {number}, whose node it lies in"
+            ),
+            FragmentError::Expansions { count } => write!(
+                f,
+                "one anchor is expanded {count} times, more than max_alias_expansions_per_anchor"
+            ),
+            FragmentError::ReplayDepth { depth } => write!(
+                f,
+                "replay depth {depth} is above max_replay_stack_depth"
+            ),
+            FragmentError::ReplayedTotal { count } => write!(
+                f,
+                "{count} replayed events are more than max_total_replayed_events"
+            ),
+            FragmentError::TapeFull => f.write_str("the passage has more than 8192 events"),
+        }
+    }
+}
+
+impl Error for FragmentError {}
+
+impl From<Rule> for FragmentError {
+    ghost from_gives = { λ rule e. e ≡ unsound rule };
+
+    fn from(rule: Rule) -> FragmentError {
+        Self::Unsound(rule)
+    }
+}
+
+/// The number of the refusal.
+impl From<FragmentError> for u32 {
+    ghost from_gives = { λ error number. number ≡ error_number error };
+
+    fn from(error: FragmentError) -> u32 {
+        match error {
             FragmentError::ShortSlate { .. } => 3,
             FragmentError::Unsound(_) => 14,
             FragmentError::CollectionBreach(_) => 15,
@@ -70,7 +120,9 @@ impl FragmentError {
             FragmentError::TapeFull => 22,
         }
     }
+}
 
+impl FragmentError {
     /// The layer that refuses.
     pub fn layer(self) -> Layer
         ensures is_the_layer_that_refuses { result ≡ error_layer self }

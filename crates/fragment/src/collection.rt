@@ -10,7 +10,7 @@ ghost use Rattle.fragment.specs.Unfolding.{value_bytes};
 
 use crate::answers::FragmentError;
 use budget::breach::BudgetBreach;
-use budget::limits::{Budget, CheckedLimits};
+use budget::limits::{Budget, CheckedLimits, within};
 use events::kinds::EventKind;
 use events::score::{Event, Mark};
 use events::sound::SoundPiece;
@@ -31,27 +31,24 @@ pub(crate) struct Collected {
 fn is_document_start(event: Event) -> bool
     ensures { result ≡ is_document_start (kind event) }
 {
-    match EventKind::from_number(event.kind) {
-        Some(EventKind::DocumentStart) => true,
-        _ => false,
-    }
+    event.kind() == Some(EventKind::DocumentStart)
 }
 
 /// Whether an event starts a sequence or a mapping.
 fn is_start(event: Event) -> bool
     ensures { result ≡ is_start (kind event) }
 {
-    match EventKind::from_number(event.kind) {
-        Some(EventKind::SequenceStart | EventKind::MappingStart) => true,
-        _ => false,
-    }
+    matches!(
+        event.kind(),
+        Some(EventKind::SequenceStart | EventKind::MappingStart)
+    )
 }
 
 /// How many bytes the value of an event has, if it is a scalar; else 0.
 pub(crate) fn value_bytes(event: Event) -> u32
     ensures { result ≡ value_bytes event }
 {
-    match EventKind::from_number(event.kind) {
+    match event.kind() {
         Some(EventKind::Scalar) => event.value.len,
         _ => 0,
     }
@@ -78,7 +75,7 @@ impl Collected {
         if is_document_start(event) {
             self.documents += 1;
         }
-        if let Some(kind) = EventKind::from_number(event.kind) {
+        if let Some(kind) = event.kind() {
             self.depth = kind.depth_after(self.depth);
         }
         self.bytes += value_bytes(event);
@@ -99,34 +96,39 @@ impl Collected {
     fn judge_depth(&self, event: Event, budget: &Budget) -> Result<(), FragmentError>
         ensures { result ≡ unless (too_deep budget.now event self.now) }
     {
-        if is_start(event) && self.depth > budget.max_depth {
-            return Err(FragmentError::CollectionBreach(BudgetBreach::Depth { depth: self.depth }));
+        if !is_start(event) {
+            return Ok(());
         }
-        Ok(())
+        let depth = self.depth;
+        within(
+            depth,
+            budget.max_depth,
+            FragmentError::CollectionBreach(BudgetBreach::Depth { depth }),
+        )
     }
 
     /// Refuses more value bytes than the limit.
     fn judge_bytes(&self, budget: &Budget) -> Result<(), FragmentError>
         ensures { result ≡ unless (too_many_bytes budget.now self.now) }
     {
-        if self.bytes > budget.max_total_scalar_bytes {
-            return Err(FragmentError::CollectionBreach(BudgetBreach::ScalarBytes {
-                total_scalar_bytes: self.bytes,
-            }));
-        }
-        Ok(())
+        let total_scalar_bytes = self.bytes;
+        within(
+            total_scalar_bytes,
+            budget.max_total_scalar_bytes,
+            FragmentError::CollectionBreach(BudgetBreach::ScalarBytes { total_scalar_bytes }),
+        )
     }
 
     /// Refuses more events than the limit.
     fn judge_events(&self, budget: &Budget) -> Result<(), FragmentError>
         ensures { result ≡ unless (too_many_events budget.now self.now) }
     {
-        if self.events > budget.max_events {
-            return Err(FragmentError::CollectionBreach(BudgetBreach::Events {
-                events: self.events,
-            }));
-        }
-        Ok(())
+        let events = self.events;
+        within(
+            events,
+            budget.max_events,
+            FragmentError::CollectionBreach(BudgetBreach::Events { events }),
+        )
     }
 
     /// Counts one event more, and answers the first cause to refuse the piece there.
@@ -144,17 +146,14 @@ impl Collected {
     }
 }
 
-/// Counts the marks against their limit.
+/// Refuses more marks than the limit: the first past it is told.
 fn collect_marks(marks: &[Mark], budget: &Budget) -> Result<(), FragmentError>
     requires { budget.now.max_anchors ≤ 2 ^ 30 }
     ensures { result ≡ unless (too_many_marks budget.now (length marks.now)) }
 {
-    let mut anchors = 0;
-    for _mark in marks {
-        anchors += 1;
-        if anchors > budget.max_anchors {
-            return Err(FragmentError::CollectionBreach(BudgetBreach::Anchors { anchors }));
-        }
+    if marks.len() > budget.max_anchors as usize {
+        let anchors = budget.max_anchors + 1;
+        return Err(FragmentError::CollectionBreach(BudgetBreach::Anchors { anchors }));
     }
     Ok(())
 }
@@ -175,10 +174,10 @@ fn collect_events(events: &[Event], budget: &Budget) -> Result<(), FragmentError
 fn find_target(sound: SoundPiece, name: &[u8]) -> Result<u32, FragmentError>
     ensures { result ≡ target_unless None (last_named (lists_in sound.entry).bytes name.now (marks_of (lists_in sound.entry) (piece_in sound.entry))) }
 {
-    match sound.last_mark_named(name) {
-        Some(number) => Ok(number as u32),
-        None => Err(FragmentError::UnmarkedTarget),
-    }
+    let number = sound
+        .last_mark_named(name)
+        .ok_or(FragmentError::UnmarkedTarget)?;
+    Ok(number as u32)
 }
 
 /// Reads a sound piece against the limits, and answers the number of the last mark with the name.
@@ -187,9 +186,9 @@ pub(crate) fn collect(
     name: &[u8],
     limits: CheckedLimits,
 ) -> Result<u32, FragmentError>
-    ensures tells_the_first_cause_or_the_target { result ≡ collected limits.budget (lists_in sound.entry) (piece_in sound.entry) name.now }
-    ensures goes_through_exactly_within_the_budget_with_a_target { AcceptedExactlyIf limits.budget (lists_in sound.entry) (piece_in sound.entry) name.now result }
-    ensures refused_exactly_by_the_first_cause { RefusedExactlyIf limits.budget (lists_in sound.entry) (piece_in sound.entry) name.now result }
+    ensures tells_the_first_cause_or_the_target { result ≡ collected limits.limits.budget (lists_in sound.entry) (piece_in sound.entry) name.now }
+    ensures goes_through_exactly_within_the_budget_with_a_target { AcceptedExactlyIf limits.limits.budget (lists_in sound.entry) (piece_in sound.entry) name.now result }
+    ensures refused_exactly_by_the_first_cause { RefusedExactlyIf limits.limits.budget (lists_in sound.entry) (piece_in sound.entry) name.now result }
 {
     let budget = limits.budget();
     collect_marks(sound.marks(), &budget)?;

@@ -3,9 +3,11 @@
 
 pub mod answers;
 mod collection;
+mod number;
 pub mod passage;
 mod slate;
 mod source;
 mod tally;
 pub mod tape;
+pub mod unfolder;
 mod unfolding;

@@ -1,28 +1,27 @@
-//! The slate: one byte for each number, lent by the caller.
-ghost use Rattle.std.specs.Prelude.{◌≡◌, ◌≤◌, length};
-ghost use Rattle.fragment.specs.Slate.{wiped};
+//! The slate: one byte for each number, lent by the caller; 1 while the range of the number is open.
+ghost use Rattle.std.specs.Prelude.{◌≡◌};
+ghost use Rattle.fragment.specs.Slate.{blank};
 
-/// Sets the first 256 bytes to 0.
-pub(crate) fn wipe(slate: &mut [u8])
-    requires { 256 ≤ length slate.old }
-    ensures the_first_256_are_0 { slate.new ≡ wiped slate.old }
+/// The bytes of a slate that are used: one for each number that a piece can have.
+pub(crate) const SLATE_BYTES: usize = 256;
+
+/// No range is open.
+pub(crate) fn close_all(slate: &mut [u8; SLATE_BYTES])
+    ensures all_closed { slate.new ≡ blank }
 {
-    for number in 0..256usize {
-        slate[number] = 0;
-    }
+    *slate = [0; SLATE_BYTES];
 }
 
-/// Keeps the slate of an unfolding. When it goes, on every way out, the first 256 bytes are 0 and the rest is untouched.
+/// Keeps the slate of an unfolding. When it goes, on every way out, no range is open.
 pub(crate) struct SlateGuard<'a> {
-    pub(crate) slate: &'a mut [u8],
+    pub(crate) slate: &'a mut [u8; SLATE_BYTES],
 }
 
 impl Drop for SlateGuard<'_> {
     fn drop(self)
-        requires { 256 ≤ length self.slate.now }
-        ensures leaves_the_first_256_at_0 { self.exit.0.now ≡ wiped self.entry.slate.now }
+        ensures leaves_all_closed { self.exit.0.now ≡ blank }
     {
-        wipe(self.slate);
-        let SlateGuard { slate: _ } = self;
+        let SlateGuard { slate } = self;
+        close_all(slate);
     }
 }
