@@ -30,22 +30,21 @@ pub enum Command<'a> {
     Help,
     Inspect(&'a str),
     Unfold(UnfoldCall<'a>),
-    Wrong,
 }
 
-/// The command that the words after the program's name say.
-pub fn command_of(words: &[String]) -> Command<'_> {
+/// The command that the words after the program's name say, if they say one.
+pub fn command_of(words: &[String]) -> Option<Command<'_>> {
     match words {
-        [word] if word.as_str() == "--help" => Command::Help,
-        [word, book] if word.as_str() == "inspect" => Command::Inspect(book.as_str()),
-        [word, book, path, anchor, ..] if word.as_str() == "unfold" => Command::Unfold(
+        [word] if word.as_str() == "--help" => Some(Command::Help),
+        [word, book] if word.as_str() == "inspect" => Some(Command::Inspect(book.as_str())),
+        [word, book, path, anchor, ..] if word.as_str() == "unfold" => Some(Command::Unfold(
             UnfoldCall {
                 book: book.as_str(),
                 path: path.as_str(),
                 anchor: anchor.as_str(),
                 options: &words[4..],
             },
-        ),
-        _ => Command::Wrong,
+        )),
+        _ => None,
     }
 }

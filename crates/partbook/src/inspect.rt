@@ -1,26 +1,16 @@
 //! The inspection of a score: its size, its marks, its soundness and its inserts.
-use crate::reasons::rule_words;
+use crate::score::Score;
 use crate::shown::Shown;
-use events::kinds::EventKind;
-use events::score::{Event, Mark, Piece, Stock};
+use events::score::{Event, Mark, Piece};
 use events::sound::check;
 use std::fmt;
 use tags::answers::{IncludeSpec, TagError};
 use tags::insert;
 
-/// What a refused insert lacks.
-fn refusal_words(error: TagError) -> &'static str {
-    match error {
-        TagError::EmptyFragment => "nothing after the tag's first '#'",
-        TagError::HashInValue => "a '#' in the tag and in the value",
-        TagError::IncompleteSpec => "a path and an anchor are wanted, and one of them is missing",
-    }
-}
-
 fn write_mark<W: fmt::Write>(out: &mut W, bytes: &[u8], number: usize, mark: Mark) -> fmt::Result {
     match mark.name.part_of(bytes) {
-        Some(bytes) => {
-            let name = Shown { bytes };
+        Some(name) => {
+            let name = Shown(name);
             writeln!(out, "  mark {number}: {name}")
         }
         None => writeln!(out, "  mark {number}: its name lies outside the stock"),
@@ -34,27 +24,25 @@ fn write_marks<W: fmt::Write>(out: &mut W, bytes: &[u8], marks: &[Mark]) -> fmt:
     Ok(())
 }
 
-fn write_soundness<W: fmt::Write>(out: &mut W, stock: Stock<'_>, piece: Piece) -> fmt::Result {
-    match check(stock, piece).broken {
-        None => writeln!(out, "  sound"),
-        Some(rule) => {
-            let number = rule.number();
-            let words = rule_words(rule);
-            writeln!(out, "  not sound: rule {number}, {words}")
+fn write_soundness<W: fmt::Write>(out: &mut W, score: Score<'_>) -> fmt::Result {
+    match check(score.stock, score.piece) {
+        Ok(_) => writeln!(out, "  sound"),
+        Err(rule) => {
+            let number = u32::from(rule);
+            writeln!(out, "  not sound: rule {number}, {rule}")
         }
     }
 }
 
 fn write_insert<W: fmt::Write>(out: &mut W, place: usize, spec: IncludeSpec<'_>) -> fmt::Result {
-    let path = Shown { bytes: spec.path };
-    let anchor = Shown { bytes: spec.anchor };
+    let path = Shown(spec.path);
+    let anchor = Shown(spec.anchor);
     writeln!(out, "  insert at {place}: path {path}, anchor {anchor}")
 }
 
 fn write_refusal<W: fmt::Write>(out: &mut W, place: usize, error: TagError) -> fmt::Result {
-    let number = error.number();
-    let words = refusal_words(error);
-    writeln!(out, "  insert at {place}: refusal {number}, {words}")
+    let number = u32::from(error);
+    writeln!(out, "  insert at {place}: refusal {number}, {error}")
 }
 
 fn write_if_insert<W: fmt::Write>(
@@ -63,7 +51,7 @@ fn write_if_insert<W: fmt::Write>(
     place: usize,
     event: &Event,
 ) -> fmt::Result {
-    let Some(kind) = EventKind::from_number(event.kind) else {
+    let Some(kind) = event.kind() else {
         return Ok(());
     };
     let Some(tag) = event.tag.part_of(bytes) else {
@@ -97,12 +85,13 @@ fn write_size<W: fmt::Write>(out: &mut W, piece: Piece) -> fmt::Result {
 }
 
 /// Writes what is to be said of a score: its size, its marks, whether it is sound, and its inserts.
-pub fn write_score<W: fmt::Write>(out: &mut W, stock: Stock<'_>, piece: Piece) -> fmt::Result {
+pub fn write_score<W: fmt::Write>(out: &mut W, score: Score<'_>) -> fmt::Result {
+    let Score { stock, piece } = score;
     write_size(out, piece)?;
     if let Some(marks) = piece.marks.part_of(stock.marks) {
         write_marks(out, stock.bytes, marks)?;
     }
-    write_soundness(out, stock, piece)?;
+    write_soundness(out, score)?;
     if let Some(events) = piece.events.part_of(stock.events) {
         write_inserts(out, stock.bytes, events)?;
     }

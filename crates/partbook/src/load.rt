@@ -1,4 +1,5 @@
 //! A book is read from its folder.
+use crate::score::Score;
 use crate::trouble::Trouble;
 use book::contents::Book;
 use book::lines::ScoreLine;
@@ -17,25 +18,38 @@ pub struct Loaded {
     pub scores: Vec<Piece>,
 }
 
+impl Loaded {
+    /// A piece of the book as a score.
+    pub fn score(&self, piece: Piece) -> Score<'_> {
+        Score {
+            stock: self.builder.stock(),
+            piece,
+        }
+    }
+}
+
+fn read_file(rt: &HostRuntime, path: &str) -> Result<Vec<u8>, Trouble> {
+    // A match, and no `map_err`: the copy of the path may fail, too.
+    match fs::read(rt, path) {
+        Ok(text) => Ok(text),
+        Err(error) => Err(Trouble::File(String::from_str(rt.alloc(), path)?, error)),
+    }
+}
+
 fn load_book(rt: &HostRuntime, folder: &str) -> Result<Book, Trouble> {
     let heap = rt.alloc();
     let path = format!(in heap; "{folder}/book.txt")?;
-    match fs::read(rt, path.as_str()) {
-        Err(error) => Err(Trouble::File(path, error)),
-        Ok(text) => match read_book(heap, text.as_slice()) {
-            Ok(book) => Ok(book),
-            Err(error) => Err(Trouble::Book(path, error)),
-        },
-    }
+    let text = read_file(rt, path.as_str())?;
+    read_book(heap, text.as_slice()).map_err(|error| Trouble::Book(path, error))
 }
 
 // The path of a score's file, whose name has to be text.
 fn score_path(rt: &HostRuntime, folder: &str, file: &[u8]) -> Result<String, Trouble> {
     let heap = rt.alloc();
-    match from_utf8(file) {
-        Ok(name) => Ok(format!(in heap; "{folder}/{name}")?),
-        Err(_) => Err(Trouble::Name(format!(in heap; "{folder}/book.txt")?)),
-    }
+    let Ok(name) = from_utf8(file) else {
+        return Err(Trouble::Name(format!(in heap; "{folder}/book.txt")?));
+    };
+    Ok(format!(in heap; "{folder}/{name}")?)
 }
 
 fn load_score(
@@ -45,13 +59,10 @@ fn load_score(
     file: &[u8],
 ) -> Result<Piece, Trouble> {
     let path = score_path(rt, folder, file)?;
-    match fs::read(rt, path.as_str()) {
-        Err(error) => Err(Trouble::File(path, error)),
-        Ok(text) => match builder.add_score(text.as_slice()) {
-            Ok(piece) => Ok(piece),
-            Err(error) => Err(Trouble::Score(path, error)),
-        },
-    }
+    let text = read_file(rt, path.as_str())?;
+    builder
+        .add_score(text.as_slice())
+        .map_err(|error| Trouble::Score(path, error))
 }
 
 fn load_scores(
@@ -72,7 +83,7 @@ pub fn load(rt: &HostRuntime, folder: &str) -> Result<Loaded, Trouble> {
     let book = load_book(rt, folder)?;
     let mut builder = StockBuilder::new(rt.alloc());
     let main = load_score(rt, &mut builder, folder, book.main.as_slice())?;
-    let scores = load_scores(rt, &mut builder, folder, book.scores.as_slice())?;
+    let scores = load_scores(rt, &mut builder, folder, book.scores.lines.as_slice())?;
     Ok(Loaded {
         book,
         builder,

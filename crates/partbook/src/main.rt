@@ -6,8 +6,8 @@ mod command;
 mod inspect;
 mod load;
 mod options;
-mod reasons;
 mod report;
+mod score;
 mod shown;
 mod trouble;
 mod unfold;
@@ -20,8 +20,9 @@ use report::write_report;
 use std::env;
 use std::io::Write;
 use std::process::ExitCode;
+use tags::answers::IncludeSpec;
 use trouble::Trouble;
-use unfold::{Wanted, unfold};
+use unfold::unfold;
 
 // The words of the call behind the program's name.
 fn call_words(rt: &HostRuntime) -> Result<Vec<String>, Trouble> {
@@ -44,11 +45,11 @@ fn unfold_call(rt: &HostRuntime, call: UnfoldCall<'_>) -> Result<(), Trouble> {
     let loaded = load(rt, call.book)?;
     let shelf = shelf_of(&loaded)?;
     let limits = limits_of(rt, call.options)?;
-    let wanted = Wanted {
+    let insert = IncludeSpec {
         path: call.path.as_bytes(),
         anchor: call.anchor.as_bytes(),
     };
-    let printed = unfold(rt.alloc(), &shelf, &loaded, limits, wanted)?;
+    let printed = unfold(rt.alloc(), &shelf, &loaded, limits, insert)?;
     rt.stdout().write_all(printed.text.as_slice())?;
     let events = printed.passage.events;
     let aliases = printed.passage.aliases;
@@ -59,14 +60,13 @@ fn unfold_call(rt: &HostRuntime, call: UnfoldCall<'_>) -> Result<(), Trouble> {
 
 fn run(rt: &HostRuntime) -> Result<(), Trouble> {
     let words = call_words(rt)?;
-    match command_of(words.as_slice()) {
+    match command_of(words.as_slice()).ok_or(Trouble::Usage)? {
         Command::Help => {
             print!(rt; "{USAGE}")?;
             Ok(())
         }
         Command::Inspect(folder) => inspect_book(rt, folder),
         Command::Unfold(call) => unfold_call(rt, call),
-        Command::Wrong => Err(Trouble::Usage),
     }
 }
 

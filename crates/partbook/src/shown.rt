@@ -4,9 +4,7 @@ use std::str::from_utf8;
 
 /// Bytes to be printed on one line. Control characters, and bytes that are no UTF-8, are printed as `\x` and two digits.
 #[derive(Clone, Copy)]
-pub struct Shown<'a> {
-    pub bytes: &'a [u8],
-}
+pub struct Shown<'a>(pub &'a [u8]);
 
 fn is_control(code: u32) -> bool {
     code < 32 || code == 127
@@ -39,9 +37,9 @@ fn show_bytes<W: fmt::Write>(bytes: &[u8], f: &mut fmt::Formatter<W>) -> fmt::Re
 
 impl fmt::Display for Shown<'_> {
     fn fmt<W: fmt::Write>(&self, f: &mut fmt::Formatter<W>) -> fmt::Result {
-        match from_utf8(self.bytes) {
+        match from_utf8(self.0) {
             Ok(text) => show_text(text, f),
-            Err(_) => show_bytes(self.bytes, f),
+            Err(_) => show_bytes(self.0, f),
         }
     }
 }

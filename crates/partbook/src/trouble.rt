@@ -1,6 +1,9 @@
 //! Why the program could not do what it was asked.
-use crate::reasons::Refused;
 use book::faults::BookError;
+use budget::limits::LimitField;
+use catalogue::answers::CatalogueError;
+use events::kinds::UnknownStyle;
+use fragment::answers::FragmentError;
 use notation::fault::TextError;
 use notation::line::PrintError;
 use std::alloc::{AllocError, AllocFailed};
@@ -18,8 +21,12 @@ pub enum Trouble {
     Name(String),
     /// A line of a score.
     Score(String, TextError),
-    /// Something is refused.
-    Refused(Refused),
+    /// The catalogue refuses.
+    Catalogue(CatalogueError),
+    /// A passage is refused.
+    Passage(FragmentError),
+    /// A limit is too large.
+    Limit(LimitField),
     /// An option that says nothing.
     Option(String),
     /// An event that no line of event notation stands for.
@@ -57,27 +64,61 @@ impl From<fmt::Error> for Trouble {
     }
 }
 
+impl From<UnknownStyle> for Trouble {
+    fn from(_e: UnknownStyle) -> Trouble {
+        Trouble::Unprintable
+    }
+}
+
+impl From<CatalogueError> for Trouble {
+    fn from(e: CatalogueError) -> Trouble {
+        Trouble::Catalogue(e)
+    }
+}
+
+impl From<FragmentError> for Trouble {
+    fn from(e: FragmentError) -> Trouble {
+        Trouble::Passage(e)
+    }
+}
+
+impl From<LimitField> for Trouble {
+    fn from(e: LimitField) -> Trouble {
+        Trouble::Limit(e)
+    }
+}
+
 impl From<io::Error> for Trouble {
     fn from(e: io::Error) -> Trouble {
         Trouble::Io(e)
     }
 }
 
+fn write_refusal<W: fmt::Write, E: fmt::Display>(
+    f: &mut fmt::Formatter<W>,
+    number: u32,
+    error: &E,
+) -> fmt::Result {
+    writeln!(f, "partbook: refusal {number}: {error}")
+}
+
 impl fmt::Display for Trouble {
     fn fmt<W: fmt::Write>(&self, f: &mut fmt::Formatter<W>) -> fmt::Result {
         match self {
             Trouble::Usage => f.write_str(crate::command::USAGE),
-            Trouble::File(path, error) => write!(f, "partbook: {path}: {error}\n"),
-            Trouble::Book(path, error) => write!(f, "partbook: {path}: {error}\n"),
-            Trouble::Name(path) => write!(f, "partbook: {path}: the name of a file is not UTF-8\n"),
-            Trouble::Score(path, error) => write!(f, "partbook: {path}: {error}\n"),
-            Trouble::Refused(refused) => write!(f, "partbook: {refused}\n"),
-            Trouble::Option(word) => write!(
+            Trouble::File(path, error) => writeln!(f, "partbook: {path}: {error}"),
+            Trouble::Book(path, error) => writeln!(f, "partbook: {path}: {error}"),
+            Trouble::Name(path) => writeln!(f, "partbook: {path}: the name of a file is not UTF-8"),
+            Trouble::Score(path, error) => writeln!(f, "partbook: {path}: {error}"),
+            Trouble::Catalogue(error) => write_refusal(f, u32::from(*error), error),
+            Trouble::Passage(error) => write_refusal(f, u32::from(*error), error),
+            Trouble::Limit(field) => write_refusal(f, 23, field),
+            Trouble::Option(word) => writeln!(
                 f,
-                "partbook: {word}: write NAME=NUMBER, with the name of a limit\n"
+                "partbook: {word}: write NAME=NUMBER, with the name of a limit"
             ),
             Trouble::Unprintable => f.write_str("partbook: an event cannot be printed\n"),
-            Trouble::Io(error) => write!(f, "partbook: {error}\n"),
+            Trouble::Io(error) => writeln!(f, "partbook: {error}"),
             Trouble::OutOfMemory => f.write_str("partbook: out of memory\n"),
         }
     }
