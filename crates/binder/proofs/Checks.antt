@@ -10,10 +10,6 @@ pub checked_first : (a b : Option ℕ) (e : CatalogueError) → checked a ≡ Er
 checked_first None b e h = cc
 checked_first (Some p) b e h = h
 
-pub checked_next : (a b : Option ℕ) → checked a ≡ Ok tt → checked (option_or a b) ≡ checked b
-checked_next None b h = refl
-checked_next (Some p) b h = cc
-
 pub checked_ok : (o : Option ℕ) → checked o ≡ Ok tt → o ≡ None
 checked_ok None h = refl
 checked_ok (Some p) h = cc

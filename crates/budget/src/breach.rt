@@ -44,7 +44,17 @@ impl fmt::Display for BudgetBreach {
                 f,
                 "{total_scalar_bytes} bytes are more than max_total_scalar_bytes"
             ),
-            _ => f.write_str("a limit of the budget is passed"),
+            BudgetBreach::Documents { documents } => {
+                write!(f, "{documents} documents are more than max_documents")
+            }
+            BudgetBreach::Nodes { nodes } => write!(f, "{nodes} nodes are more than max_nodes"),
+            BudgetBreach::MergeKeys { merge_keys } => {
+                write!(f, "{merge_keys} merge keys are more than max_merge_keys")
+            }
+            BudgetBreach::AliasAnchorRatio { aliases, anchors } => {
+                write!(f, "{aliases} aliases are too many for {anchors} anchors")
+            }
+            BudgetBreach::SequenceUnbalanced => f.write_str("an end closes no start"),
         }
     }
 }
@@ -52,7 +62,7 @@ impl fmt::Display for BudgetBreach {
 impl Error for BudgetBreach {}
 
 /// The first breach, if there was one, and the counts. A count stops at the largest number of 32 bits.
-#[derive(Clone, Copy, Debug, PartialEq, Eq)]
+#[derive(Clone, Copy, Debug, Default, PartialEq, Eq)]
 pub struct BudgetReport {
     /// The first breach.
     pub breached: Option<BudgetBreach>,

@@ -1,6 +1,6 @@
 //! The counts of the report, each against its limit.
 ghost use Rattle.std.specs.Prelude.{◌≡◌};
-ghost use Rattle.budget.specs.Counts.{cleared, count_alias, count_anchor, count_bytes, count_document, count_event, count_merge_key, count_node, judged, no_counts, up, Stepped};
+ghost use Rattle.budget.specs.Counts.{cleared, count_alias, count_anchor, count_bytes, count_document, count_event, count_merge_key, count_node, judged, up, Stepped};
 ghost use Rattle.budget.specs.Counts.{deepen as deeper};
 
 use crate::breach::{BudgetBreach, BudgetReport};
@@ -14,25 +14,6 @@ fn raise(count: &mut u32, by: usize) -> u32
     let sum = (*count as usize).saturating_add(by);
     *count = sum.min(u32::MAX as usize) as u32;
     *count
-}
-
-impl Default for BudgetReport {
-    ghost is_default = { λ r. r ≡ no_counts };
-
-    /// A report of nothing.
-    fn default() -> BudgetReport {
-        BudgetReport {
-            breached: None,
-            events: 0,
-            aliases: 0,
-            anchors: 0,
-            documents: 0,
-            nodes: 0,
-            max_depth: 0,
-            total_scalar_bytes: 0,
-            merge_keys: 0,
-        }
-    }
 }
 
 impl BudgetReport {

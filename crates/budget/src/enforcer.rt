@@ -110,10 +110,10 @@ impl BudgetEnforcer {
     }
 
     /// A breach is remembered.
-    fn remember(&mut self, res: Result<(), BudgetBreach>)
-        ensures { self.new ≡ kept res self.old }
+    fn remember(&mut self, answer: Result<(), BudgetBreach>)
+        ensures { self.new ≡ kept answer self.old }
     {
-        if let Err(breach) = res {
+        if let Err(breach) = answer {
             self.report.breached = Some(breach);
         }
     }

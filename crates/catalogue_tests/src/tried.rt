@@ -4,7 +4,7 @@ use crate::items::path_of_many;
 use binder::state::Binder;
 use catalogue::Catalogue;
 use catalogue::answers::{CatalogueError, Found, Unresolved};
-use events::score::{Piece, Run};
+use events::score::Piece;
 use shelf::table::Shelf;
 use std::alloc::{AllocError, Global};
 
@@ -61,14 +61,8 @@ fn common<C: Catalogue>(
 
 // Shelves entries until one is refused.
 fn shelve_many(shelf: &mut Shelf, count: u16) -> Result<(), CatalogueError> {
-    let none = Run { start: 0, len: 0 };
-    let piece = Piece {
-        marks: none,
-        events: none,
-        text_len: 0,
-    };
     for i in 0..count {
-        shelf.shelve(&path_of_many(i), u32::from(i) + 1, piece)?;
+        shelf.shelve(&path_of_many(i), u32::from(i) + 1, Piece::default())?;
     }
     Ok(())
 }

@@ -4,7 +4,7 @@ ghost use Rattle.std.specs.Prelude.{◌≡◌};
 use crate::kinds::EventKind;
 
 /// A run of a list: where it starts, and how many items it has.
-#[derive(Clone, Copy, Debug, PartialEq, Eq)]
+#[derive(Clone, Copy, Debug, Default, PartialEq, Eq)]
 pub struct Run {
     pub start: u32,
     pub len: u32,
@@ -17,7 +17,7 @@ pub struct Mark {
 }
 
 /// Where an event stood in its text. It is only handed on.
-#[derive(Clone, Copy, Debug, PartialEq, Eq)]
+#[derive(Clone, Copy, Debug, Default, PartialEq, Eq)]
 pub struct Span {
     pub start: u32,
     pub end: u32,
@@ -46,7 +46,7 @@ impl Event {
 }
 
 /// A piece: the runs of marks and of events of one score, and the length of its text.
-#[derive(Clone, Copy, Debug, PartialEq, Eq)]
+#[derive(Clone, Copy, Debug, Default, PartialEq, Eq)]
 pub struct Piece {
     pub marks: Run,
     pub events: Run,

@@ -1,6 +1,6 @@
 //! Writes the answers to a line of the table.
 use crate::notation::{Case, Fault};
-use events::score::{NodeRange, Piece, Run, Stock};
+use events::score::{NodeRange, Piece, Stock};
 use events::sound::{NodeTable, SoundPiece, check};
 use std::alloc::{AllocError, Global};
 
@@ -90,13 +90,7 @@ fn nothing() -> Result<SoundPiece<'static>, Fault> {
         marks: &[],
         events: &[],
     };
-    let run = Run { start: 0, len: 0 };
-    let piece = Piece {
-        marks: run,
-        events: run,
-        text_len: 0,
-    };
-    check(stock, piece).map_err(|_| Fault::BadLine)
+    check(stock, Piece::default()).map_err(|_| Fault::BadLine)
 }
 
 /// A verdict, the ranges of the nodes of a piece and what is asked of it, with spaces between.

@@ -68,7 +68,7 @@ fn read_run(text: &str) -> Result<Run, Fault> {
 }
 
 fn run_or_empty(text: Option<&str>) -> Result<Run, Fault> {
-    text.map_or(Ok(Run { start: 0, len: 0 }), |run| read_run(run))
+    text.map_or(Ok(Run::default()), |run| read_run(run))
 }
 
 fn push_times<T: Copy>(list: &mut Vec<T>, item: T, count: u32) -> Result<(), Fault> {
@@ -113,7 +113,7 @@ fn read_event(token: &str) -> Result<(Event, u32), Fault> {
         value: run_or_empty(value)?,
         tag: run_or_empty(tag)?,
         style: number_or(style, 0)?,
-        span: Span { start: 0, end: 0 },
+        span: Span::default(),
     };
     Ok((event, number_or(last, anchor)?))
 }

@@ -1,5 +1,5 @@
 -- What an unfolding answers, from how its walk ended.
-use Rattle.std.proofs.Common.{◌≡◌, ℕ, zero, suc, ◌+◌, ◌-◌, ◌<◌, ◌≤◌, List, [], ◌∷◌, length, get_or, take, set, Ok, Err, refl, ap, ◌∙◌, arith}
+use Rattle.std.proofs.Common.{◌≡◌, ℕ, ◌+◌, ◌-◌, ◌<◌, ◌≤◌, List, length, get_or, take, Ok, Err, refl, ap, ◌∙◌, arith}
 use Rattle.std.proofs.lemmas.List.{take_at, get_or-replicate}
 use Rattle.budget.specs.Model.{Model}
 use Rattle.events.specs.declared.score.NodeRange.{NodeRange}
@@ -7,22 +7,11 @@ use Rattle.fragment.specs.declared.answers.Charges.{Charges}
 use Rattle.fragment.specs.declared.answers.Passage.{Passage}
 use Rattle.fragment.specs.declared.answers.FragmentError.{FragmentError}
 use Rattle.fragment.specs.Ended.{Ended, went, refused}
-use Rattle.fragment.specs.Slate.{blank, opened, wiped}
+use Rattle.fragment.specs.Slate.{blank, opened}
 use Rattle.fragment.specs.Unfolding.{Counts, Score, Unfolded, Work, answered, begun, charges_of, passage_of, range, run, shut, unfolded}
 use Rattle.fragment.proofs.Growth.{left, run_grows}
-use Rattle.fragment.proofs.Slates.{blank_length, wiped_take}
+use Rattle.fragment.proofs.Slates.{blank_length}
 use Rattle.fragment.proofs.Steps.{shut_le, shut_set}
-
-take_set : (n : ℕ) (l : List ℕ) (i a : ℕ) → take n (set l i a) ≡ set (take n l) i a
-take_set zero l i a = refl
-take_set (suc n) [] i a = refl
-take_set (suc n) (x ∷ l) zero a = refl
-take_set (suc n) (x ∷ l) (suc i) a = ap (λ t. x ∷ t) (take_set n l i a)
-
--- the slate that the walk begins with
-pub opened_is : (s z : List ℕ) (n : ℕ) → z ≡ wiped s → take 256 (set z (n - 1) 1) ≡ opened n blank
-opened_is s z n e =
-    take_set 256 z (n - 1) 1 ∙ ap (λ t. set (take 256 t) (n - 1) 1) e ∙ ap (λ t. set t (n - 1) 1) (wiped_take s)
 
 blank_at : (i : ℕ) → i < 256 → get_or blank i 0 ≡ 0
 unfolding blank

@@ -52,9 +52,6 @@ pub record Going (b : Budget) (es : List Event) (i : ℕ) (c : Collected) : Type
   pub bytes : c.bytes ≤ b.max_total_scalar_bytes
   pub events : c.events ≡ i
 
-pub going : (b : Budget) (es : List Event) → Going b es 0 nothing
-going b es = record { left = refl; documents = omega arith; depth = omega arith; bytes = omega arith; events = refl }
-
 module _ (b : Budget) (es : List Event) (i : ℕ) (c : Collected) (h : i < length es) (g : Going b es i c) where
   abbrev e : Event
   e = get_or es i no_event

@@ -10,7 +10,7 @@ use std::error::Error;
 use std::fmt;
 
 /// What was charged for inserts so far: aliases that were replaced, and events that were replayed for them.
-#[derive(Clone, Copy, Debug, PartialEq, Eq)]
+#[derive(Clone, Copy, Debug, Default, PartialEq, Eq)]
 pub struct Charges {
     pub aliases: u32,
     pub replayed: u32,

@@ -43,9 +43,6 @@ impl<'a> Source<'a> {
         requires { HasRange self.now number }
         ensures { result ≡ range_numbered (score_in self.now) number }
     {
-        match self.nodes.range(number as usize) {
-            Some(range) => range,
-            None => unreachable(),
-        }
+        self.nodes.range(number as usize).unwrap()
     }
 }

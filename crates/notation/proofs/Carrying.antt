@@ -1,6 +1,6 @@
 -- Texts that stand in the bytes of a stock stay there.
-use Rattle.std.proofs.Common.{◌≡◌, ℕ, ◌+◌, ◌-◌, ◌<◌, ◌≤◌, Bool, true, false, List, [], ◌∷◌, ◌++◌, length, take, drop, IfOk, Ok, Err, vec_items, MatchBool, Result, sym, refl, ap, ◌∙◌, subst, arith, length-append, length-drop, MatchResult}
-use Rattle.std.proofs.lemmas.List.{take_all, drop_at, drop-append-le, take-append-le}
+use Rattle.std.proofs.Common.{◌≡◌, ℕ, ◌+◌, ◌-◌, ◌<◌, ◌≤◌, Bool, true, false, List, [], ◌∷◌, ◌++◌, length, take, drop, Ok, vec_items, MatchBool, ap, ◌∙◌, subst, arith, length-append, length-drop}
+use Rattle.std.proofs.lemmas.List.{drop-append-le, take-append-le}
 use Rattle.events.specs.declared.score.Event.{Event}
 use Rattle.events.specs.declared.score.Run.{Run}
 use Rattle.events.specs.declared.score.Span.{Span}
@@ -9,19 +9,6 @@ use Rattle.slices.specs.Fields.{is_empty, place_of}
 use Rattle.notation.specs.Lines.{Said, shape_of, is_name, line_of}
 use Rattle.notation.specs.Causes.{line_at}
 use Rattle.notation.specs.Scores.{Grows, Holds, Carries, Unmarked, Naming, Marking, Anchored, Step, Reached, one_more, Ended, ReadThrough, added}
-
-pub holds_put : (xs ys more text : List ℕ) (run : Run) → ys ≡ xs ++ more → more ≡ text → run.start ≡ length xs → run.len ≡ length more → Holds ys run text
-holds_put xs ys more text run e t s l =
-    record {
-      inside = let h = ap length e in omega (arith, length-append xs more);
-      is =
-          ap (λ zs. take run.len (drop run.start zs)) e
-          ∙ ap (λ n. take run.len (drop n (xs ++ more))) s
-          ∙ ap (take run.len) (drop_at xs more (length xs) refl)
-          ∙ ap (λ n. take n more) l
-          ∙ take_all (length more) more (omega arith)
-          ∙ t;
-    }
 
 pub holds_grows : {xs ys : List ℕ} (run : Run) (text : List ℕ) → Holds xs run text → Grows xs ys → Holds ys run text
 holds_grows {xs = xs} run text h g =
@@ -35,16 +22,6 @@ holds_grows {xs = xs} run text h g =
           ∙ take-append-le run.len (drop run.start xs) more (omega (arith, length-drop run.start xs))
           ∙ h.is;
     }
-
-pub when_true : (P Q : Type 0) (t : Bool) → t ≡ true → P → MatchBool t P Q
-when_true P Q t e p = subst (λ b. MatchBool b P Q) (sym e) p
-
-pub when_false : (P Q : Type 0) (t : Bool) → t ≡ false → Q → MatchBool t P Q
-when_false P Q t e q = subst (λ b. MatchBool b P Q) (sym e) q
-
-pub made_from : {X Y : Type 0} (r : Result X Y) (P R : X → Type 0) (Q : Y → Type 0) → ((x : X) → P x → R x) → MatchResult r P Q → IfOk r R
-made_from (Ok x) P R Q f h = f x h
-made_from (Err y) P R Q f h = tt
 
 -- what a line's anchor did stays so while the marks stay and the bytes grow
 module _ (first : ℕ) (name : List ℕ) (n : ℕ) (b c d : StockBuilder) (same : vec_items d.marks ≡ vec_items c.marks) (more : Grows (vec_items c.bytes) (vec_items d.bytes)) where

@@ -6,10 +6,6 @@ use Rattle.slices.specs.Fields.{lacks}
 use Rattle.slices.proofs.Places.{lacks_append}
 use Rattle.notation.specs.Escapes.{letter, meant, written, written_by, escaped, behind_bytes, behind_byte, unescaped_from, unescaped}
 
-pub behind_none : (o : Option (List ℕ)) → behind_bytes [] o ≡ o
-behind_none None = refl
-behind_none (Some cs) = refl
-
 pub behind_push : (bs : List ℕ) (b : ℕ) (o : Option (List ℕ)) → behind_bytes (bs ++ b ∷ []) o ≡ behind_bytes bs (behind_byte (Some b) o)
 behind_push bs b None = refl
 behind_push bs b (Some cs) = ap Some (append_assoc bs (b ∷ []) cs)

@@ -1,5 +1,5 @@
 -- Lists that only grow.
-use Rattle.std.proofs.Common.{◌≡◌, ℕ, ◌≤◌, List, [], ◌++◌, length, take, Ok, Err, Result, sym, ap, ◌∙◌, arith, length-append, MatchResult}
+use Rattle.std.proofs.Common.{◌≡◌, ℕ, ◌≤◌, List, [], ◌++◌, length, take, sym, ap, ◌∙◌, arith, length-append}
 use Rattle.std.proofs.lemmas.List.{append_assoc, append-nil, take_at}
 use Rattle.notation.specs.declared.builder.StockBuilder.{StockBuilder}
 use Rattle.notation.specs.Scores.{Grows, Grown}
@@ -12,11 +12,6 @@ grows_is {xs = xs} e = record { more = []; is = e ∙ sym (append-nil xs) }
 
 pub grows_trans : {A : Type 0} {xs ys zs : List A} → Grows xs ys → Grows ys zs → Grows xs zs
 grows_trans {xs = xs} g h = record { more = g.more ++ h.more; is = h.is ∙ ap (λ l. l ++ h.more) g.is ∙ append_assoc xs g.more h.more }
-
--- what a call appends where it succeeds, and not where it refuses
-pub grows_either : {A X Y : Type 0} (r : Result X Y) (xs ys more : List A) → MatchResult r (λ _. ys ≡ xs ++ more) (λ _. ys ≡ xs) → Grows xs ys
-grows_either (Ok x) xs ys more h = record { more = more; is = h }
-grows_either (Err e) xs ys more h = grows_is h
 
 pub grows_length : {A : Type 0} {xs ys : List A} → Grows xs ys → length xs ≤ length ys
 grows_length {xs = xs} g = let e = ap length g.is in omega (arith, length-append xs g.more)

@@ -1,7 +1,7 @@
 -- Causes of a refusal, carried from one call to the one around it.
-use Rattle.std.proofs.Common.{◌≡◌, ℕ, suc, ◌+◌, ◌-◌, ◌<◌, ◌≤◌, Bool, true, false, cond, eqb, ◌⊎◌, List, [], ◌∷◌, ◌++◌, length, take, drop, IsErrAnd, Ok, Err, vec_len, Result, sym, refl, ap, ◌∙◌, subst, inl, inr, arith, length-append, length-drop}
+use Rattle.std.proofs.Common.{◌≡◌, ℕ, suc, ◌+◌, ◌<◌, ◌≤◌, Bool, true, false, cond, eqb, ◌⊎◌, List, [], ◌∷◌, ◌++◌, length, take, drop, IsErrAnd, Ok, Err, vec_len, Result, sym, refl, ap, ◌∙◌, subst, inl, inr, arith, length-append, length-drop}
 use Rattle.std.proofs.lemmas.Result.{err_from_is_err_and}
-use Rattle.std.proofs.lemmas.List.{append_assoc, take-append-drop, take-take, drop-take, take_rest, drop-drop, length-take-le}
+use Rattle.std.proofs.lemmas.List.{append_assoc, take-append-drop, take-take, drop-take, drop-drop, length-take-le}
 use Rattle.slices.specs.Lines.{lines_of}
 use Rattle.slices.proofs.Cutting.{line_begun}
 use Rattle.slices.proofs.Places.{place_within}
@@ -13,8 +13,6 @@ use Rattle.slices.specs.Fields.{place_of}
 use Rattle.notation.specs.Lines.{Said, line_of}
 use Rattle.notation.specs.declared.builder.StockBuilder.{StockBuilder}
 use Rattle.notation.specs.declared.fault.TextError.{TextError}
-use Rattle.events.specs.declared.score.Mark.{Mark}
-use Rattle.events.specs.Tables.{last_named}
 use Rattle.notation.specs.Scores.{Ended, added}
 use Rattle.notation.specs.Causes.{refusing, fault_of, Caused, ForLists, BytesExceeded, EventsFull, AliasUnknown, MarkExceeds, LineCause, Stopped, StoppedBefore, line_feeds, line_at}
 
@@ -27,10 +25,6 @@ caused_weaker TooManyMarks l n b m v h = m h
 caused_weaker TooManyEvents l n b m v h = v h
 caused_weaker TextTooLong l n b m v h = h
 caused_weaker OutOfMemory l n b m v h = tt
-
-pub refusing_weaker : {X Y : Type 0} (r : Result X Y) {P Q : Y → Type 0} → ((y : Y) → P y → Q y) → refusing r P → refusing r Q
-refusing_weaker (Ok x) f h = tt
-refusing_weaker (Err y) f h = f y h
 
 -- what the exit of a `?` returns
 pub refusing_exit : {X Y : Type 0} (r : Result X Y) (P : Y → Type 0) (y : Y) → IsErrAnd r (λ d. d ≡ y) → P y → refusing r P
@@ -70,15 +64,6 @@ exceeded_behind m n held held' s xs ys a b e f h =
 
 pub put_twice : {held' held'' : List ℕ} (held s t xs ys : List ℕ) → held' ≡ held ++ s → held'' ≡ held' ++ t → s ≡ xs → t ≡ ys → held'' ≡ held ++ (xs ++ ys)
 put_twice held s t xs ys e f a b = f ∙ ap (λ l. l ++ t) (e ∙ ap (λ l. held ++ l) a) ∙ append_assoc held xs t ∙ ap (λ l. held ++ (xs ++ l)) b
-
-pub events_full_same : (first m n : ℕ) → m ≡ n → EventsFull first m → EventsFull first n
-events_full_same first m n e h = subst (EventsFull first) e h
-
--- marks from a place on, as a slice and as a list
-pub last_named_from : (bytes bytes' name : List ℕ) (marks marks' : List Mark) (first : ℕ) → bytes ≡ bytes' → marks ≡ marks' → last_named bytes name (take (length marks - first) (drop first marks)) ≡ last_named bytes' name (drop first marks')
-last_named_from bytes bytes' name marks marks' first e f =
-    ap (λ b. last_named b name (take (length marks - first) (drop first marks))) e
-    ∙ ap (last_named bytes' name) (take_rest marks first ∙ ap (drop first) f)
 
 -- the line feeds up to the end of a line
 feeds_append : (xs ys : List ℕ) → line_feeds (xs ++ ys) ≡ line_feeds xs + line_feeds ys

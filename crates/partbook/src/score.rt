@@ -41,7 +41,7 @@ impl Score<'_> {
     // The line of event notation of an event, if its kind and style are known.
     fn line_of(self, heap: Global, event: Event) -> Result<Line, Trouble> {
         let kind = event.kind().ok_or_else(|| Trouble::Unprintable)?;
-        let style = ScalarStyle::try_from(event.style)?;
+        let style = ScalarStyle::try_from(event.style).map_err(|_| Trouble::Unprintable)?;
         Ok(Line {
             kind,
             anchor: self.anchor_of(heap, event)?,

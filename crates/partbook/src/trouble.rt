@@ -2,13 +2,16 @@
 use book::faults::BookError;
 use budget::limits::LimitField;
 use catalogue::answers::CatalogueError;
-use events::kinds::UnknownStyle;
 use fragment::answers::FragmentError;
 use notation::fault::TextError;
 use notation::line::PrintError;
 use std::alloc::{AllocError, AllocFailed};
 use std::{fmt, io};
 
+/// The number of the refusal of a limit that is too large.
+const TOO_LARGE_A_LIMIT: u32 = 23;
+
+/// What ends the program.
 #[derive(Drop)]
 pub enum Trouble {
     /// The call says nothing that the program can do.
@@ -33,9 +36,11 @@ pub enum Trouble {
     Unprintable,
     /// Arguments could not be read, or the output not be written.
     Io(io::Error),
+    /// No memory was left.
     OutOfMemory,
 }
 
+// By hand, here and below: the derive of `thiserror` takes no message in which a field stands beside a number that is made of it.
 impl From<AllocError> for Trouble {
     fn from(_e: AllocError) -> Trouble {
         Trouble::OutOfMemory
@@ -61,12 +66,6 @@ impl From<PrintError> for Trouble {
 impl From<fmt::Error> for Trouble {
     fn from(_e: fmt::Error) -> Trouble {
         Trouble::OutOfMemory
-    }
-}
-
-impl From<UnknownStyle> for Trouble {
-    fn from(_e: UnknownStyle) -> Trouble {
-        Trouble::Unprintable
     }
 }
 
@@ -112,7 +111,7 @@ impl fmt::Display for Trouble {
             Trouble::Score(path, error) => writeln!(f, "partbook: {path}: {error}"),
             Trouble::Catalogue(error) => write_refusal(f, u32::from(*error), error),
             Trouble::Passage(error) => write_refusal(f, u32::from(*error), error),
-            Trouble::Limit(field) => write_refusal(f, 23, field),
+            Trouble::Limit(field) => write_refusal(f, TOO_LARGE_A_LIMIT, field),
             Trouble::Option(word) => writeln!(
                 f,
                 "partbook: {word}: write NAME=NUMBER, with the name of a limit"

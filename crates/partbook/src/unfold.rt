@@ -22,14 +22,7 @@ pub struct Printed {
 // An unfolder that has unfolded nothing.
 fn unfolder_under(limits: CheckedLimits) -> Unfolder {
     let enforcer = BudgetEnforcer::new(limits, EnforcingPolicy::AllContent, MergeKeyPolicy::Merge);
-    Unfolder::new(
-        Tape::new(),
-        Charges {
-            aliases: 0,
-            replayed: 0,
-        },
-        enforcer,
-    )
+    Unfolder::new(Tape::new(), Charges::default(), enforcer)
 }
 
 /// Unfolds the passage of an anchor in the score of a path under limits.

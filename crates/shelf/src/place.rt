@@ -5,7 +5,7 @@ ghost use Rattle.shelf.specs.Shelving.{new_entry};
 
 use arrayvec::ArrayVec;
 use catalogue::answers::{Found, Unresolved};
-use events::score::{Piece, Run};
+use events::score::Piece;
 use std::marker::Model;
 
 /// A place of a shelf. It means the entry that it holds.
@@ -27,15 +27,10 @@ impl Model for Place {
 
 impl Default for Place {
     fn default() -> Place {
-        let none = Run { start: 0, len: 0 };
         Place {
             path: ArrayVec::new(),
             number: 0,
-            piece: Piece {
-                marks: none,
-                events: none,
-                text_len: 0,
-            },
+            piece: Piece::default(),
             stands: false,
         }
     }

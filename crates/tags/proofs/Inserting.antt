@@ -10,18 +10,6 @@ use Rattle.tags.proofs.Members.{Hashless}
 use Rattle.tags.proofs.Forms.{include_decides}
 use Rattle.tags.proofs.Causing.{answer_caused, answer_only}
 
-pub not_scalar : (k : EventKind) → (k ≡ Scalar → ⊥) → is_scalar k ≡ false
-not_scalar StreamStart n = refl
-not_scalar StreamEnd n = refl
-not_scalar DocumentStart n = refl
-not_scalar DocumentEnd n = refl
-not_scalar Alias n = refl
-not_scalar Scalar n = absurd (n refl)
-not_scalar SequenceStart n = refl
-not_scalar SequenceEnd n = refl
-not_scalar MappingStart n = refl
-not_scalar MappingEnd n = refl
-
 scalar_from_test : (k : EventKind) → is_scalar k ≡ true → k ≡ Scalar
 scalar_from_test StreamStart h = absurd (both_ways false refl h)
 scalar_from_test StreamEnd h = absurd (both_ways false refl h)

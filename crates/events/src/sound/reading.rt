@@ -23,16 +23,16 @@ impl<'a> SoundPiece<'a> {
     pub fn events(self) -> &'a [Event]
         ensures are_the_events_of_the_piece { result.now ≡ events_of (lists_in self.entry) (piece_in self.entry) }
     {
-        let start = self.piece.events.start as usize;
-        &self.stock.events[start..start + self.piece.events.len as usize]
+        let run = self.piece.events;
+        run.part_of(self.stock.events).unwrap()
     }
 
     /// The marks of the piece: the mark at place `k - 1` names the node with number `k`.
     pub fn marks(self) -> &'a [Mark]
         ensures are_the_marks_of_the_piece { result.now ≡ marks_of (lists_in self.entry) (piece_in self.entry) }
     {
-        let start = self.piece.marks.start as usize;
-        &self.stock.marks[start..start + self.piece.marks.len as usize]
+        let run = self.piece.marks;
+        run.part_of(self.stock.marks).unwrap()
     }
 
     /// The ranges of the nodes with numbers.
@@ -71,10 +71,7 @@ fn depth_after(event: Event, depth: u32) -> u32
     requires { depth < 2 ^ 32 - 1 }
     ensures { result ≡ deeper (kind event) depth }
 {
-    match event.kind() {
-        Some(kind) => kind.depth_after(depth),
-        None => depth,
-    }
+    event.kind().map_or(depth, |kind| kind.depth_after(depth))
 }
 
 /// The last place of the node that starts at `start`: its own, or that of the matching end.

@@ -1,6 +1,5 @@
-use Rattle.std.proofs.Common.{◌≡◌, ℕ, ◌<◌, false, List, length, get_or, drop, None, Ok, Err, Result, rules, sym, refl, ap, ◌∙◌, subst, w8, Fits}
+use Rattle.std.proofs.Common.{◌≡◌, ℕ, ◌<◌, List, get_or, drop, None, Ok, Err, Result, rules, sym, refl, ap, ◌∙◌, subst, w8, Fits}
 use Rattle.std.proofs.ByRecursion.{All-from_get_or}
-use Rattle.std.proofs.lemmas.List.{length-replicate}
 use Rattle.std.proofs.lemmas.Bool.{false≢true}
 use Rattle.catalogue.specs.Entries.{Entry}
 use Rattle.catalogue.specs.declared.answers.CatalogueError.{CatalogueError}
