@@ -7,7 +7,7 @@
 # the instructions of `partbook unfold` on that passage, less those of the same call on a passage of one event: what is left is the unfolding of the
 # passage, with the printing of its events. Twice the aliases may cost at most 2.2 times. The program has to be built first (bin/partbook does it).
 #
-# rattle-kit-13f: 200 aliases 658292, 400 aliases 1313483, 800 aliases 2631789 instructions.
+# rattle-kit-13f: 200 aliases 688132, 400 aliases 1373123, 800 aliases 2751029 instructions.
 set -eu
 root=$(cd "$(dirname "$0")/.." && pwd)
 program=$root/crates/partbook/out/partbook

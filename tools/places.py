@@ -3,10 +3,10 @@
 
     tools/places.py COMMIT [--list]
 
-For each point of that page it searches crates/*/src/ of the commit for the patterns below, and prints how many lines each finds; with --list the
-lines too. The patterns find more than the places: which lines are places, the page says. For the fifth point it prints the pairs of parameters that
-three functions or more take together, the functions of five parameters and more, and each requires that stands three times or more. For the eighth
-it prints how many files and lines of proofs there are.
+For each heading of that page it searches crates/*/src/ of the commit for the patterns below, and prints how many lines each finds; with --list the
+lines too. The patterns find more than the places: which lines are places, the page says. It also prints the pairs of parameters that three functions
+or more take together, the functions of five parameters and more, each requires that stands three times or more, and how many files and lines of
+proofs there are.
 """
 import collections
 import re
