@@ -6,6 +6,7 @@ use Rattle.std.proofs.lemmas.Bool.{or_parts, or_from, not-false, not_from_true, 
 use Rattle.std.specs.Option.{option_or}
 use Rattle.catalogue.specs.Entries.{Entry, Lawful, known, numbered, distinct}
 use Rattle.catalogue.proofs.Lists.{numbered_push, distinct_push}
+use Rattle.binder.specs.Binding.{fine}
 use Rattle.binder.specs.Entries.{path_length, path_of, behind_path, entry_of, entry_length, behind_entry, walk, count_of, listed, wrong_if, wrong_head, wrong_length, wrong_path, wrong_number, wrong_piece, wrong_entry, wrong_from, wrong}
 use Rattle.binder.specs.Fields.{be16, be32, short}
 
@@ -16,6 +17,10 @@ or_none (Some p) b h = let z : ◌≡◌ {A = ℕ} 0 1 = cc in absurd (omega ari
 not_wrong : (b : Bool) (p : ℕ) → wrong_if b p ≡ None → b ≡ false
 not_wrong true p h = let z : ◌≡◌ {A = ℕ} 0 1 = cc in absurd (omega arith)
 not_wrong false p h = refl
+
+pub fine_none : (o : Option ℕ) → fine o ≡ true → o ≡ None
+fine_none None h = refl
+fine_none (Some p) h = let z : ◌≡◌ {A = ℕ} 0 1 = cc in absurd (omega arith)
 
 -- the fields before the entries
 pub record GoodHead (bs : List ℕ) : Type 0 where

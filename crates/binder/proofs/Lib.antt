@@ -1,7 +1,7 @@
 mod Checks
 pub mod Flags
-mod Good
-mod Meant
+pub mod Good
+pub mod Meant
 pub mod Packing
 pub mod Walks
 pub mod Written

@@ -4,26 +4,29 @@ ghost use Rattle.catalogue.specs.Entries.{answer, has_path};
 ghost use Rattle.binder.specs.Binding.{flagged_entry};
 ghost use Rattle.binder.specs.Entries.{listed, walk};
 
-use crate::entries::{behind_entry, behind_path, path_of, piece_of};
+use crate::entries::{behind_path, path_of, piece_of};
 use crate::fields::u32_of;
 use crate::whole::count_of;
 use catalogue::answers::{Found, Unresolved};
 use slices::behind;
 use std::marker::Model;
 
-/// One entry, at the front of the bytes.
+/// One entry: its path, and what stands behind it.
 #[derive(Drop)]
 pub(crate) struct PackedEntry<'a> {
-    bytes: &'a [u8],
+    path: &'a [u8],
+    numbers: &'a [u8],
 }
 
 impl<'a> Model for PackedEntry<'a> {
+    ghost use Rattle.std.specs.Prelude.{true, drop};
     ghost use Rattle.catalogue.specs.Entries.{Entry};
-    ghost use Rattle.binder.specs.Entries.{entry_of};
+    ghost use Rattle.binder.specs.Entries.{piece_of};
+    ghost use Rattle.binder.specs.Fields.{be32};
 
     ghost Value = { Entry };
 
-    ghost view = { λ e. entry_of e.bytes.now };
+    ghost view = { λ e. record { path = e.path.now; number = be32 e.numbers.now; piece = piece_of (drop 4 e.numbers.now); stands = true } };
 }
 
 impl<'a> PackedEntry<'a> {
@@ -31,14 +34,14 @@ impl<'a> PackedEntry<'a> {
     pub(crate) fn has_path(&self, path: &[u8]) -> bool
         ensures { result ≡ has_path path.now self.now }
     {
-        path_of(self.bytes) == path
+        self.path == path
     }
 
     /// The number of the entry.
     pub(crate) fn number(&self) -> u32
         ensures { result ≡ self.now.number }
     {
-        u32_of(behind_path(self.bytes))
+        u32_of(self.numbers)
     }
 
     /// What the entry answers to its path, under its flag.
@@ -50,7 +53,7 @@ impl<'a> PackedEntry<'a> {
         }
         Ok(Found {
             number: self.number(),
-            piece: piece_of(behind(behind_path(self.bytes), 4)),
+            piece: piece_of(behind(self.numbers, 4)),
         })
     }
 }
@@ -92,8 +95,9 @@ impl<'a> Iterator for PackedEntries<'a> {
 
     fn next(&mut self) -> Option<PackedEntry<'a>> {
         self.left = self.left.checked_sub(1)?;
-        let entry = PackedEntry { bytes: self.bytes };
-        self.bytes = behind_entry(self.bytes);
-        Some(entry)
+        let path = path_of(self.bytes);
+        let numbers = behind_path(self.bytes);
+        self.bytes = behind(numbers, 20);
+        Some(PackedEntry { path, numbers })
     }
 }

@@ -1,3 +1,4 @@
+pub mod Adding
 pub mod Cutting
 pub mod Digits
 pub mod Distinct

@@ -4,16 +4,18 @@ use Rattle.std.proofs.lemmas.List.{set-get_or}
 use Rattle.std.proofs.lemmas.Bool.{not-false}
 use Rattle.events.specs.declared.kinds.EventKind.{EventKind}
 use Rattle.events.specs.declared.kinds.EventKind.TheVariants.{StreamStart, StreamEnd, DocumentStart, DocumentEnd, Alias, Scalar, SequenceStart, SequenceEnd, MappingStart, MappingEnd}
+use Rattle.budget.specs.declared.limits.Budget.{Budget}
 use Rattle.budget.specs.declared.breach.BudgetBreach.TheVariants.{Events, Nodes, Depth, ScalarBytes, Aliases, Documents, MergeKeys, Anchors, SequenceUnbalanced}
 use Rattle.budget.specs.declared.policy.EnforcingPolicy.{EnforcingPolicy}
 use Rattle.budget.specs.declared.policy.EnforcingPolicy.TheVariants.{AllContent, PerDocument}
+use Rattle.budget.specs.declared.policy.MergeKeyPolicy.{MergeKeyPolicy}
 use Rattle.budget.specs.declared.containers.ContainerState.{ContainerState}
 use Rattle.budget.specs.Counts.{up, count_event, count_node, count_bytes, count_alias, count_document, count_merge_key, count_anchor, deepen, judged, with_anchors}
 use Rattle.budget.specs.Flags.{trues, is_new, defined}
 use Rattle.budget.specs.Merging.{is_merge}
 use Rattle.budget.specs.Nesting.{key_next, closing, entered}
 use Rattle.budget.specs.Observed.{Seen, Input, event, reference}
-use Rattle.budget.specs.Model.{Model, Outcome, with_report, with_flags, with_around, good, and_then, counting, anchored, turning, placed, scalar_anchored, scalar_sized, scalar, enter_placed, enter_sized, enter_deep, enter, closed, leave_at, alias, renewed, document_by, by_kind, by_input, observed}
+use Rattle.budget.specs.Model.{Model, Outcome, with_report, with_flags, with_around, good, and_then, counting, anchored, turning, placed, scalar_anchored, scalar_sized, scalar, enter_placed, enter_sized, enter_deep, enter, closed, leave_at, alias, renewed, document_by, by_kind, by_input, observed, started}
 use Rattle.budget.specs.Laws.{Within, StaysWithin}
 use Rattle.budget.proofs.Exact.{ok_or_err, passed, not_above}
 use Rattle.budget.proofs.Marking.{none_set}
@@ -140,3 +142,6 @@ pub observed_within : (i : Input) (m : Model) → StaysWithin (observed i m).1 m
 observed_within i m w t =
     let h = counted_well i m t in
     subst Within (sym h.1) (safe_then (counting count_event) (λ _. by_input i) safe_events (λ _. safe_input i) m w h.0)
+
+pub started_within : (b : Budget) (p : EnforcingPolicy) (k : MergeKeyPolicy) → Within (started b p k)
+started_within b p k = record { events = omega arith; aliases = omega arith; anchors = omega arith; depth = omega arith; documents = omega arith; nodes = omega arith; bytes = omega arith; merge_keys = omega arith; told = sym (none_set 1024) }

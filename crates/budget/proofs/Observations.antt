@@ -1,11 +1,12 @@
 -- The laws of one observation, for what a call answers and leaves.
-use Rattle.std.proofs.Common.{◌≡◌, sym, ◌∙◌, subst}
+use Rattle.std.proofs.Common.{◌≡◌, ◌≤◌, true, sym, ◌∙◌, subst}
 use Rattle.budget.specs.declared.limits.checking.CheckedLimits.{CheckedLimits}
 use Rattle.budget.specs.declared.limits.AliasLimits.{AliasLimits}
 use Rattle.budget.specs.declared.policy.EnforcingPolicy.{EnforcingPolicy}
 use Rattle.budget.specs.declared.policy.MergeKeyPolicy.{MergeKeyPolicy}
 use Rattle.budget.specs.Counts.{Answer}
-use Rattle.budget.specs.Laws.{Adds, AnswersOnly, ABreachIsAnsweredForEver, ABreachTellsAPassedLimit, CountsDistinctAnchors, CountsExactly, CountsWhatIsObserved, EndsWithTheReport, KeyAndValueAlternate, StaysWithin, Within}
+use Rattle.budget.specs.Limits.{allowed as is_allowed}
+use Rattle.budget.specs.Laws.{Adds, AnswersOnly, ABreachIsAnsweredForEver, ABreachTellsAPassedLimit, CountsDistinctAnchors, CountsExactly, CountsWhatIsObserved, EndsWithTheReport, IsUnderCheckedLimits, KeyAndValueAlternate, StaysWithin, Within}
 use Rattle.budget.specs.Model.{Model, observed, started}
 use Rattle.budget.specs.Observed.{Input}
 use Rattle.budget.proofs.Adding.{observed_adds}
@@ -38,6 +39,12 @@ module _ (l : CheckedLimits) where
 
     pub good_counts : (i : Input) (r : Answer) (n : Model) → r ≡ (observed i m).1 → n ≡ (observed i m).0 → CountsExactly i r m n
     good_counts i r n answer state t = subst (Adds i m) (sym state) (observed_adds a i m bounded (sym answer ∙ t))
+
+    pub under_checked : IsUnderCheckedLimits m
+    under_checked = (a, subst (λ b. is_allowed (record { budget = b; alias_limits = a }) ≡ true) e l.none_too_large)
+
+    pub shallow_depth : m.budget.max_depth ≤ 256
+    shallow_depth = subst (λ b. b.max_depth ≤ 256) e l.shallow
 
     pub alternating : KeyAndValueAlternate m
     alternating = key_and_value_alternate a m bounded

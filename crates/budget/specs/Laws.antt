@@ -8,12 +8,14 @@ use Rattle.events.specs.Balance.{starts, ends}
 use Rattle.budget.specs.declared.breach.BudgetBreach.{BudgetBreach}
 use Rattle.budget.specs.declared.breach.BudgetBreach.TheVariants.{Events, Nodes, Depth, ScalarBytes, Aliases, Documents, MergeKeys, AliasAnchorRatio, Anchors, SequenceUnbalanced}
 use Rattle.budget.specs.declared.breach.BudgetReport.{BudgetReport}
+use Rattle.budget.specs.declared.limits.AliasLimits.{AliasLimits}
 use Rattle.budget.specs.declared.limits.Budget.{Budget}
 use Rattle.budget.specs.declared.policy.EnforcingPolicy.{EnforcingPolicy}
 use Rattle.budget.specs.declared.containers.ContainerState.{ContainerState}
 use Rattle.budget.specs.declared.containers.ContainerState.TheVariants.{Sequence, Mapping}
 use Rattle.budget.specs.Counts.{Answer}
 use Rattle.budget.specs.Flags.{trues}
+use Rattle.budget.specs.Limits.{allowed}
 use Rattle.budget.specs.Model.{Model, reported}
 use Rattle.budget.specs.Observed.{Seen, Input, event, reference}
 use Rattle.budget.specs.Runs.{run, answers, Moment, moments, since_last, total, highest}
@@ -101,6 +103,10 @@ alternated (suc n) ss = alternated n (flipped ss)
 -- after whole nodes key and value have alternated as often, and the containers around are as they were
 abbrev pub KeyAndValueAlternate : Model → Type 0
 KeyAndValueAlternate m = (n : ℕ) (is : List Input) → Whole n is → (run is m).report.breached ≡ None → (run is m).around ≡ alternated n m.around
+
+-- the limits of an enforcer passed the check, with some alias limits
+abbrev pub IsUnderCheckedLimits : Model → Type 0
+IsUnderCheckedLimits m = (a : AliasLimits) × (allowed (record { budget = m.budget; alias_limits = a }) ≡ true)
 
 -- 5: a breach tells the counts of the report, and is answered only where a limit is passed
 

@@ -30,11 +30,14 @@ pub struct BudgetEnforcer {
 }
 
 impl Model for BudgetEnforcer {
+    ghost use Rattle.std.specs.Prelude.{◌≤◌, length};
     ghost use Rattle.budget.specs.Model.{Model};
 
     ghost Value = { Model };
 
     ghost view = { λ e. record { budget = e.limits.limits.budget; policy = e.policy; merging = e.merge_keys; report = e.report; around = e.containers; anchors = e.anchors.flags } };
+
+    ghost invariant = { λ e. length e.containers ≤ 256 };
 }
 
 impl BudgetEnforcer {

@@ -35,6 +35,17 @@ impl Unresolved {
     }
 }
 
+impl fmt::Display for Unresolved {
+    fn fmt<W: fmt::Write>(&self, f: &mut fmt::Formatter<W>) -> fmt::Result {
+        f.write_str(match self {
+            Unresolved::Withdrawn => "the score of this path is withdrawn",
+            Unresolved::Unknown => "no score has this path",
+        })
+    }
+}
+
+impl Error for Unresolved {}
+
 /// Why the catalogue refuses.
 #[derive(Clone, Copy, Debug, PartialEq, Eq)]
 pub enum CatalogueError {
@@ -86,10 +97,8 @@ impl CatalogueError {
 impl fmt::Display for CatalogueError {
     fn fmt<W: fmt::Write>(&self, f: &mut fmt::Formatter<W>) -> fmt::Result {
         match self {
-            CatalogueError::UnknownPath { .. } => f.write_str("no score has this path"),
-            CatalogueError::WithdrawnPath { .. } => f.write_str(
-                "the score of this path is withdrawn",
-            ),
+            CatalogueError::UnknownPath { .. } => write!(f, "{}", Unresolved::Unknown),
+            CatalogueError::WithdrawnPath { .. } => write!(f, "{}", Unresolved::Withdrawn),
             CatalogueError::Malformed { place } => write!(f, "malformed bytes at {place}"),
             CatalogueError::NotShelved { entries } => write!(
                 f,

@@ -1,11 +1,11 @@
 -- The table of node ranges as it is filled and read.
-use Rattle.std.proofs.Common.{◌≡◌, ℕ, ◌+◌, ◌<◌, ◌≤◌, true, false, List, [], ◌∷◌, ◌++◌, length, get_or, drop, Some, None, Option, sym, ap, ◌∙◌, append_assoc, length-append, add-one, arith}
+use Rattle.std.proofs.Common.{◌≡◌, ℕ, suc, ◌+◌, ◌<◌, ◌≤◌, Bool, true, false, cond, eqb, List, [], ◌∷◌, ◌++◌, length, get_or, drop, Some, None, Option, sym, ap, ◌∙◌, append_assoc, length-append, add-one, arith}
 use Rattle.std.proofs.lemmas.List.{drop_more, drop_all, append-nil}
 use Rattle.events.specs.declared.score.Event.{Event}
 use Rattle.events.specs.declared.score.NodeRange.{NodeRange}
 use Rattle.events.specs.declared.kinds.EventKind.{EventKind}
 use Rattle.events.specs.declared.kinds.EventKind.TheVariants.{StreamStart, StreamEnd, DocumentStart, DocumentEnd, Alias, Scalar, SequenceStart, SequenceEnd, MappingStart, MappingEnd}
-use Rattle.events.specs.Scores.{no_event}
+use Rattle.events.specs.Scores.{kind, no_event}
 use Rattle.events.specs.Nodes.{deeper, carries, closing, end_of, added_if, ranges_from}
 
 -- one event goes at most one deeper
@@ -21,6 +21,15 @@ deeper_le (Some SequenceStart) d = omega arith
 deeper_le (Some SequenceEnd) d = omega arith
 deeper_le (Some MappingStart) d = omega arith
 deeper_le (Some MappingEnd) d = omega arith
+
+-- an end is never before its start
+pub closing_le : (es : List Event) (d p : ℕ) → p ≤ closing d p es
+closing_le [] d p = omega arith
+closing_le (e ∷ es) d p = at (eqb (deeper (kind e) d) 0) (closing_le es (deeper (kind e) d) (suc p))
+  where
+    at : (b : Bool) → suc p ≤ closing (deeper (kind e) d) (suc p) es → p ≤ cond b p (closing (deeper (kind e) d) (suc p) es)
+    at true h = omega arith
+    at false h = omega arith
 
 -- one turn of the filling of the table
 ranges_step : (es : List Event) (i : ℕ) → i < length es → ranges_from i (drop i es) ≡ added_if (carries (get_or es i no_event)) (record { first = i; last = end_of es i }) (ranges_from (i + 1) (drop (i + 1) es))

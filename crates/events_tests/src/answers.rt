@@ -14,10 +14,14 @@ fn range_text(heap: Global, range: Option<NodeRange>) -> Result<String, AllocErr
 }
 
 /// The ranges of all nodes with numbers, each with a space before it.
-fn ranges(heap: Global, sound: SoundPiece, nodes: &NodeTable) -> Result<String, AllocError> {
+fn ranges(heap: Global, nodes: &NodeTable) -> Result<String, AllocError> {
     let mut text = String::new(heap);
-    for number in 1..=sound.marks().len() {
-        let range = range_text(heap, nodes.range(number))?;
+    for number in 1..257usize {
+        let found = nodes.range(number);
+        if found.is_none() {
+            break;
+        }
+        let range = range_text(heap, found)?;
         text.push_str(format!(in heap; " {number}={range}")?.as_str())?;
     }
     Ok(text)
@@ -97,7 +101,7 @@ fn nothing() -> Result<SoundPiece<'static>, Fault> {
 fn answers(heap: Global, verdict: &str, sound: SoundPiece, asked: &str) -> Result<String, Fault> {
     let nodes = sound.nodes();
     let mut text = String::from_str(heap, verdict)?;
-    text.push_str(ranges(heap, sound, &nodes)?.as_str())?;
+    text.push_str(ranges(heap, &nodes)?.as_str())?;
     for ask in asked.split_whitespace() {
         text.push_str(" ")?;
         text.push_str(answer_to(heap, sound, &nodes, ask)?.as_str())?;

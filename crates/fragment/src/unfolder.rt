@@ -3,7 +3,6 @@ ghost use Rattle.std.specs.Prelude.{◌≡◌};
 ghost use Rattle.fragment.specs.Handed.{charged};
 
 use crate::answers::Charges;
-use crate::tally::Tally;
 use crate::tape::Tape;
 use budget::enforcer::BudgetEnforcer;
 
@@ -12,7 +11,7 @@ use budget::enforcer::BudgetEnforcer;
 pub struct Unfolder {
     pub tape: Tape,
     pub enforcer: BudgetEnforcer,
-    pub(crate) tally: Tally,
+    pub(crate) charges: Charges,
 }
 
 impl Unfolder {
@@ -25,7 +24,7 @@ impl Unfolder {
         Unfolder {
             tape,
             enforcer,
-            tally: Tally::begin(charges),
+            charges,
         }
     }
 
@@ -35,14 +34,27 @@ impl Unfolder {
         ensures keeps_the_tape { self.new.tape ≡ self.old.tape }
         ensures keeps_the_enforcer { self.new.enforcer ≡ self.old.enforcer }
     {
-        let tally = &mut self.tally;
-        tally.charges = charges;
+        self.charges = charges;
     }
 
     /// What was charged so far.
     pub fn charges(&self) -> Charges
         ensures is_what_was_charged { result ≡ charged self.now }
     {
-        self.tally.charges
+        self.charges
+    }
+
+    /// Gives back the tape, what was charged, and the enforcer.
+    pub fn into_parts(self) -> (Tape, Charges, BudgetEnforcer)
+        ensures gives_the_tape { result.0 ≡ self.tape }
+        ensures gives_the_charges { result.1 ≡ charged self }
+        ensures gives_the_enforcer { result.2 ≡ self.enforcer }
+    {
+        let Unfolder {
+            tape,
+            enforcer,
+            charges: charged,
+        } = self;
+        (tape, charged, enforcer)
     }
 }

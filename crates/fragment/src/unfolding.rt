@@ -4,7 +4,7 @@ ghost use Rattle.events.specs.Checked.{piece_in};
 ghost use Rattle.events.specs.Rules.{is_alias};
 ghost use Rattle.events.specs.Scores.{kind};
 ghost use Rattle.fragment.specs.Ended.{ended};
-ghost use Rattle.fragment.specs.Handed.{charged, work};
+ghost use Rattle.fragment.specs.Handed.{work};
 ghost use Rattle.fragment.specs.Slate.{blank};
 ghost use Rattle.fragment.specs.Sources.{score_in};
 ghost use Rattle.fragment.specs.Unfolding.{alias_step, event_step, judge_depth, run, shut, try_closed, unfolded, Unfolded, Work};
@@ -16,7 +16,8 @@ use crate::number::NodeNumber;
 use crate::slate::{SLATE_BYTES, SlateGuard};
 use crate::source::Source;
 use crate::tally::Tally;
-use crate::unfolder::Unfolder;
+use crate::tape::Tape;
+use budget::enforcer::BudgetEnforcer;
 use budget::limits::{AliasLimits, CheckedLimits, within};
 use events::kinds::EventKind;
 use events::score::{Event, NodeRange};
@@ -52,10 +53,20 @@ fn judge_depth(limits: &AliasLimits, depth: u32) -> Result<(), FragmentError>
     )
 }
 
-impl Unfolder {
+/// One unfolding: the tape and the enforcer that it is lent, and what it counts.
+#[derive(Drop)]
+pub(crate) struct Unfolding<'a> {
+    pub(crate) tape: &'a mut Tape,
+    pub(crate) enforcer: &'a mut BudgetEnforcer,
+    pub(crate) tally: Tally,
+}
+
+impl Unfolding<'_> {
     /// Tells the enforcer of an alias that is replaced.
     fn refer(&mut self) -> Result<(), FragmentError>
-        ensures { ended result (work self.new) ≡ referred (work self.old) }
+        ensures steps { ended result (work self.new) ≡ referred (work self.old) }
+        ensures same_tape { self.new.tape.ghost_name ≡ self.old.tape.ghost_name }
+        ensures same_enforcer { self.new.enforcer.ghost_name ≡ self.old.enforcer.ghost_name }
     {
         self.enforcer
             .observe_alias_reference()
@@ -70,7 +81,9 @@ impl Unfolder {
         depth: u32,
         number: NodeNumber,
     ) -> Result<(), FragmentError>
-        ensures { ended result (work self.new) ≡ alias_step (score_in source.now) slate.now depth number.number (work self.old) }
+        ensures steps { ended result (work self.new) ≡ alias_step (score_in source.now) slate.now depth number.number (work self.old) }
+        ensures same_tape { self.new.tape.ghost_name ≡ self.old.tape.ghost_name }
+        ensures same_enforcer { self.new.enforcer.ghost_name ≡ self.old.enforcer.ghost_name }
     {
         let limits = &source.limits;
         try_closed(slate, number)?;
@@ -84,7 +97,9 @@ impl Unfolder {
     /// The tests at another event, in order; then its place in the stock is written.
     fn meet_event(&mut self, source: &Source, depth: u32, place: u32) -> Result<(), FragmentError>
         requires { place < length source.now.events.now }
-        ensures { ended result (work self.new) ≡ event_step (score_in source.now) depth place (work self.old) }
+        ensures steps { ended result (work self.new) ≡ event_step (score_in source.now) depth place (work self.old) }
+        ensures same_tape { self.new.tape.ghost_name ≡ self.old.tape.ghost_name }
+        ensures same_enforcer { self.new.enforcer.ghost_name ≡ self.old.enforcer.ghost_name }
     {
         self.tally
             .charge_replayed(&source.limits.alias_limits, depth)?;
@@ -107,6 +122,8 @@ impl Unfolder {
         requires depth { depth + shut slate.old ≤ 256 }
         ensures unfolds_the_range { ended result (work self.new) ≡ run (score_in source.now) (shut slate.old) slate.old depth range (work self.old) }
         ensures closes_what_it_opened { OnOk result (slate.new ≡ slate.old) }
+        ensures same_tape { self.new.tape.ghost_name ≡ self.old.tape.ghost_name }
+        ensures same_enforcer { self.new.enforcer.ghost_name ≡ self.old.enforcer.ghost_name }
     {
         // A range of places, and no iterator over events: the place is what is written on the tape.
         for place in range.first..range.last + 1 {
@@ -139,8 +156,10 @@ impl Unfolder {
     ) -> Result<Passage, FragmentError>
         requires target { (1 ≤ target) × (target ≤ (piece_in sound).marks.len) }
         requires all_closed { slate.old ≡ blank }
-        ensures unfolds_the_target { ◌≡◌ {A = Unfolded} (record { answer = result; tape = self.new.tape; charges = charged self.new; enforcer = self.new.enforcer }) (unfolded (score_of sound.entry limits.now) target self.old.tape (charged self.old) self.old.enforcer) }
+        ensures unfolds_the_target { ◌≡◌ {A = Unfolded} (record { answer = result; tape = self.new.tape.now; charges = self.new.tally.charges; enforcer = self.new.enforcer.now }) (unfolded (score_of sound.entry limits.now) target self.old.tape.now self.old.tally.charges self.old.enforcer.now) }
         ensures leaves_all_closed { slate.new ≡ blank }
+        ensures same_tape { self.new.tape.ghost_name ≡ self.old.tape.ghost_name }
+        ensures same_enforcer { self.new.enforcer.ghost_name ≡ self.old.enforcer.ghost_name }
     {
         let source = Source::new(sound, limits);
         let range = source.range(target);

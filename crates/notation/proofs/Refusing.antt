@@ -1,5 +1,5 @@
 -- Causes of a refusal, carried from one call to the one around it.
-use Rattle.std.proofs.Common.{◌≡◌, ℕ, suc, ◌+◌, ◌<◌, ◌≤◌, Bool, true, false, cond, eqb, ◌⊎◌, List, [], ◌∷◌, ◌++◌, length, take, drop, IsErrAnd, Ok, Err, vec_len, Result, sym, refl, ap, ◌∙◌, subst, inl, inr, arith, length-append, length-drop}
+use Rattle.std.proofs.Common.{◌≡◌, ℕ, suc, ◌+◌, ◌-◌, ◌<◌, ◌≤◌, Bool, true, false, cond, eqb, ◌⊎◌, List, [], ◌∷◌, ◌++◌, length, take, drop, IsErrAnd, Ok, Err, vec_len, Result, sym, refl, ap, ◌∙◌, subst, inl, inr, arith, length-append, length-drop}
 use Rattle.std.proofs.lemmas.Result.{err_from_is_err_and}
 use Rattle.std.proofs.lemmas.List.{append_assoc, take-append-drop, take-take, drop-take, drop-drop, length-take-le}
 use Rattle.slices.specs.Lines.{lines_of}
@@ -109,6 +109,12 @@ stopped_before {m = m} {v = v} {t = t} text a e n p q r ended s =
 pub events_filled : (N B M : Type 0) (first n m : ℕ) (f : TextFault) → n ≡ m → (f ≡ OutOfMemory) ⊎ ((f ≡ TooManyEvents) × EventsFull first n) → ForLists N B M (EventsFull first m) f
 events_filled N B M first n m f e (inl h) = subst (ForLists N B M (EventsFull first m)) (sym h) tt
 events_filled N B M first n m f e (inr h) = subst (ForLists N B M (EventsFull first m)) (sym h.0) (subst (EventsFull first) e h.1)
+
+-- the line that was given to be read is the line at its place
+pub line_at_lem : (text : List ℕ) (i p : ℕ) (rest line : List ℕ) → rest ≡ drop i text → p ≡ place_of 10 rest → line ≡ take (i + p - i) rest → line ≡ line_at text i
+line_at_lem text i p rest line r e f =
+    let n : i + p - i ≡ place_of 10 rest = omega (arith, e) in
+    f ∙ ap (λ m. take m rest) n ∙ ap (λ t. take (place_of 10 t) t) r
 
 -- the line at a place of a text, and those behind it
 pub record LineHere (text line : List ℕ) (rest : List (List ℕ)) (start : ℕ) : Type 0 where

@@ -122,18 +122,20 @@ fn show_score(rt: &HostRuntime, builder: &mut StockBuilder, text: &[u8]) -> anyh
     show_events(rt, builder.stock(), events)
 }
 
-/// Shows each score of the input.
+/// Shows each score of the input: a part of it, up to the line that ends the score.
 fn show_all(rt: &HostRuntime, text: &[u8]) -> anyhow::Result<()> {
     let mut builder = StockBuilder::new(rt.alloc());
-    let mut score = Vec::new(rt.alloc());
+    let mut rest = text;
+    let mut len: usize = 0;
     for line in Lines::of(text) {
+        let behind_line = len.saturating_add(line.len()).saturating_add(1);
         if line == SCORE_END {
-            show_score(rt, &mut builder, score.as_slice())?;
-            score.clear();
+            show_score(rt, &mut builder, front(rest, len))?;
+            rest = behind(rest, behind_line);
+            len = 0;
         } else {
             show_line(rt, line)?;
-            score.extend_from_slice(line)?;
-            score.push(b'\n')?;
+            len = behind_line;
         }
     }
     Ok(())

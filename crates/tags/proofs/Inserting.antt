@@ -25,6 +25,9 @@ scalar_from_test MappingEnd h = absurd (both_ways false refl h)
 pub scalar_decides : (k : EventKind) → Decides (is_scalar k) (k ≡ Scalar)
 scalar_decides k = (scalar_from_test k, λ e. ap is_scalar e)
 
+pub not_scalar : (k : EventKind) → (k ≡ Scalar → ⊥) → is_scalar k ≡ false
+not_scalar k n = elim (cases_Bool (is_scalar k)) [ inl s ↦ absurd (n (scalar_from_test k s)) | inr s ↦ s ]
+
 module _ (ws : List (List ℕ)) (free : Hashless ws) (kind : EventKind) (tag : List ℕ) where
   -- an insert is a scalar with an include tag
   pub insert_decides : Decides (is_insert ws kind tag) ((kind ≡ Scalar) × NamesInclude ws tag)

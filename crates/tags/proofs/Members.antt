@@ -1,5 +1,5 @@
 -- One of the words, as a test and as a fact; words have no `#`.
-use Rattle.std.proofs.Common.{◌≡◌, ℕ, true, false, List, [], ◌∷◌, refl, ap, inl, inr}
+use Rattle.std.proofs.Common.{◌≡◌, ℕ, true, false, List, [], ◌∷◌, Decides, refl, ap, inl, inr}
 use Rattle.std.specs.Str.{bytes_eq}
 use Rattle.std.proofs.lemmas.Slice.Eq.{bytes_eq-Decides}
 use Rattle.std.proofs.lemmas.Bool.{cases_Bool, both_ways}
@@ -22,6 +22,9 @@ word_from_among (w ∷ ws) t (inr m) =
       | inl e ↦ rw e
       | inr e ↦ rw e (word_from_among ws t m)
     ]
+
+pub word_decides : (ws : List (List ℕ)) (t : List ℕ) → Decides (is_word ws t) (Among ws t)
+word_decides ws t = (among_from_word ws t, word_from_among ws t)
 
 -- no word has a `#`
 abbrev pub Hashless : List (List ℕ) → Type 0

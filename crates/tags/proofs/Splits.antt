@@ -1,8 +1,8 @@
 -- A list split at its first `#`.
-use Rattle.std.proofs.Common.{◌≡◌, ℕ, suc, ◌+◌, ◌<◌, ◌≤◌, Bool, true, false, cond, not, ◌||◌, eqb, ltb, ◌⊎◌, List, [], ◌∷◌, ◌++◌, length, take, drop, Some, None, Option, MatchOption, sym, refl, ap, ◌∙◌, subst, inl, inr, arith}
+use Rattle.std.proofs.Common.{◌≡◌, ℕ, suc, ◌+◌, ◌<◌, ◌≤◌, Bool, true, false, cond, not, ◌||◌, eqb, ltb, ◌⊎◌, List, [], ◌∷◌, ◌++◌, length, take, drop, is_some, Some, None, Option, MatchOption, sym, refl, ap, ◌∙◌, subst, inl, inr, arith, Bor}
 use Rattle.std.specs.List.{position, position_or_len}
 use Rattle.std.proofs.lemmas.Bool.{ne_eqb, eqb-true, lt-ltb, le-ltb, cases_Bool, or_parts, or_right}
-use Rattle.tags.specs.Hashes.{Parts, parts, hashed, behind_byte, split_at_hash, is_empty}
+use Rattle.tags.specs.Hashes.{Parts, parts, hashed, behind_byte, split_at_hash, told_parts, is_empty}
 use Rattle.tags.specs.Causes.{SplitsInto, NonEmpty}
 
 or_assoc : (x y z : Bool) → ((x || y) || z) ≡ (x || (y || z))
@@ -93,3 +93,18 @@ nonempty_false (x ∷ xs) n = refl
 pub empty_is : (xs : List ℕ) → is_empty xs ≡ eqb (length xs) 0
 empty_is [] = refl
 empty_is (x ∷ xs) = sym (ne_eqb (length (x ∷ xs)) 0 (λ e. omega arith))
+
+told_some : (r : Option (Bor (List ℕ) × Bor (List ℕ))) → is_some r ≡ is_some (told_parts r)
+told_some None = refl
+told_some (Some s) = refl
+
+split_some : (xs : List ℕ) → is_some (split_at_hash xs) ≡ hashed xs
+split_some xs =
+    elim (split_cases xs) [
+      | inl h ↦ ap is_some (split_none xs h) ∙ sym h
+      | inr s ↦ ap is_some (split_into xs s.0 s.1.0 s.1.1) ∙ sym (ap hashed s.1.1.0 ∙ hashed_inside s.0 s.1.0)
+    ]
+
+-- a split is found exactly where there is a `#`
+pub found_exactly : (r : Option (Bor (List ℕ) × Bor (List ℕ))) (xs : List ℕ) → told_parts r ≡ split_at_hash xs → is_some r ≡ hashed xs
+found_exactly r xs e = told_some r ∙ ap is_some e ∙ split_some xs

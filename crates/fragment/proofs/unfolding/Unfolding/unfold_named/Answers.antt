@@ -1,7 +1,7 @@
 use Rattle.std.proofs.Common.{refl}
 use Rattle.events.specs.Checked.{lists_in, piece_in}
 use Rattle.fragment.proofs.Passages.{target_within}
-use Rattle.fragment.proofs.unfolder.Unfolder.unfold_named.Goals as goal
+use Rattle.fragment.proofs.unfolding.Unfolding.unfold_named.Goals as goal
 
 pub unfold_target-requires-clause-target : goal.unfold_target-requires-clause-target
 unfold_target-requires-clause-target c =
