@@ -26,8 +26,12 @@ piece_of ys =
       events = record { start = be32 (drop 10 ys); len = be16 (drop 14 ys) };
     }
 
+-- an entry of its path and of the bytes that stand behind it
+abbrev pub entry_with : List ℕ → List ℕ → Entry
+entry_with path ys = record { path = path; number = be32 ys; piece = piece_of (drop 4 ys); stands = true }
+
 abbrev pub entry_of : List ℕ → Entry
-entry_of xs = record { path = path_of xs; number = be32 (behind_path xs); piece = piece_of (drop 4 (behind_path xs)); stands = true }
+entry_of xs = entry_with (path_of xs) (behind_path xs)
 
 abbrev pub entry_length : List ℕ → ℕ
 entry_length xs = 21 + path_length xs

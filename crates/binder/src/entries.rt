@@ -9,6 +9,9 @@ use catalogue::answers::CatalogueError;
 use events::score::{Piece, Run};
 use slices::{behind, byte_at, front};
 
+/// The bytes of an entry behind its path: its number and its piece.
+pub(crate) const NUMBERS_LEN: usize = 20;
+
 /// The length that the entry gives for its path.
 pub(crate) fn path_len(s: &[u8]) -> usize
     ensures is_the_first_byte { result ≡ path_length s.now }
@@ -35,7 +38,7 @@ pub(crate) fn behind_path(s: &[u8]) -> &[u8]
 pub(crate) fn behind_entry(s: &[u8]) -> &[u8]
     ensures is_behind_the_entry { result.now ≡ behind_entry s.now }
 {
-    behind(behind_path(s), 20)
+    behind(behind_path(s), NUMBERS_LEN)
 }
 
 /// The piece at the front.

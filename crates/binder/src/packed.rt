@@ -4,7 +4,7 @@ ghost use Rattle.catalogue.specs.Entries.{answer, has_path};
 ghost use Rattle.binder.specs.Binding.{flagged_entry};
 ghost use Rattle.binder.specs.Entries.{listed, walk};
 
-use crate::entries::{behind_path, path_of, piece_of};
+use crate::entries::{NUMBERS_LEN, behind_path, path_of, piece_of};
 use crate::fields::u32_of;
 use crate::whole::count_of;
 use catalogue::answers::{Found, Unresolved};
@@ -19,14 +19,12 @@ pub(crate) struct PackedEntry<'a> {
 }
 
 impl<'a> Model for PackedEntry<'a> {
-    ghost use Rattle.std.specs.Prelude.{true, drop};
     ghost use Rattle.catalogue.specs.Entries.{Entry};
-    ghost use Rattle.binder.specs.Entries.{piece_of};
-    ghost use Rattle.binder.specs.Fields.{be32};
+    ghost use Rattle.binder.specs.Entries.{entry_with};
 
     ghost Value = { Entry };
 
-    ghost view = { λ e. record { path = e.path.now; number = be32 e.numbers.now; piece = piece_of (drop 4 e.numbers.now); stands = true } };
+    ghost view = { λ e. entry_with e.path.now e.numbers.now };
 }
 
 impl<'a> PackedEntry<'a> {
@@ -97,7 +95,7 @@ impl<'a> Iterator for PackedEntries<'a> {
         self.left = self.left.checked_sub(1)?;
         let path = path_of(self.bytes);
         let numbers = behind_path(self.bytes);
-        self.bytes = behind(numbers, 20);
+        self.bytes = behind(numbers, NUMBERS_LEN);
         Some(PackedEntry { path, numbers })
     }
 }

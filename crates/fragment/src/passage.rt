@@ -9,6 +9,8 @@ ghost use Rattle.fragment.specs.PassageLaws.{Means};
 ghost use Rattle.fragment.specs.PassageView.{asked, wanted, wanted_in};
 ghost use Rattle.fragment.specs.Passages.{from_target, passage_for, Outcome};
 ghost use Rattle.fragment.specs.Slate.{blank};
+ghost use Rattle.fragment.specs.Unfolding.{begun};
+ghost use Rattle.fragment.specs.View.{counts};
 
 use crate::answers::{Charges, FragmentError, Passage};
 use crate::collection::collect;
@@ -41,6 +43,7 @@ impl Unfolding<'_> {
         slate: &mut [u8; SLATE_BYTES],
     ) -> Result<Passage, FragmentError>
         requires all_closed { slate.old ≡ blank }
+        requires begun { counts self.old.tally ≡ begun self.old.tally.charges }
         ensures collects_and_unfolds { ◌≡◌ {A = Outcome} (record { answer = result; left = lent_to blank self.new }) (from_target (wanted_in sound.entry name.now limits.now) (collected limits.now.limits.budget (wanted_in sound.entry name.now limits.now).stock (wanted_in sound.entry name.now limits.now).piece name.now) (lent_to blank self.old)) }
         ensures leaves_all_closed { slate.new ≡ blank }
         ensures same_tape { self.new.tape.ghost_name ≡ self.old.tape.ghost_name }

@@ -7,9 +7,9 @@ ghost use Rattle.fragment.specs.Ended.{ended};
 ghost use Rattle.fragment.specs.Handed.{work};
 ghost use Rattle.fragment.specs.Slate.{blank};
 ghost use Rattle.fragment.specs.Sources.{score_in};
-ghost use Rattle.fragment.specs.Unfolding.{alias_step, event_step, judge_depth, run, shut, try_closed, unfolded, Unfolded, Work};
+ghost use Rattle.fragment.specs.Unfolding.{alias_step, begun, event_step, judge_depth, run, shut, try_closed, unfolded, Unfolded, Work};
 ghost use Rattle.fragment.specs.Unfolding.{refer as referred};
-ghost use Rattle.fragment.specs.View.{score_of};
+ghost use Rattle.fragment.specs.View.{counts, score_of};
 
 use crate::answers::{FragmentError, Passage};
 use crate::number::NodeNumber;
@@ -156,6 +156,7 @@ impl Unfolding<'_> {
     ) -> Result<Passage, FragmentError>
         requires target { (1 ≤ target) × (target ≤ (piece_in sound).marks.len) }
         requires all_closed { slate.old ≡ blank }
+        requires begun { counts self.old.tally ≡ begun self.old.tally.charges }
         ensures unfolds_the_target { ◌≡◌ {A = Unfolded} (record { answer = result; tape = self.new.tape.now; charges = self.new.tally.charges; enforcer = self.new.enforcer.now }) (unfolded (score_of sound.entry limits.now) target self.old.tape.now self.old.tally.charges self.old.enforcer.now) }
         ensures leaves_all_closed { slate.new ≡ blank }
         ensures same_tape { self.new.tape.ghost_name ≡ self.old.tape.ghost_name }
@@ -164,7 +165,6 @@ impl Unfolding<'_> {
         let source = Source::new(sound, limits);
         let range = source.range(target);
         let before = self.tape.len();
-        self.tally = Tally::begin(self.tally.charges);
         let guard = SlateGuard { slate };
         guard.slate[(target - 1) as usize] = 1;
         let done = self.walk(&source, guard.slate, range, 1);
